@@ -1,0 +1,8 @@
+//! The world around the engine: lists of bytes, devices, and what a device may do.
+#![tactic(auto)]
+
+mod faults;
+mod list;
+
+pub use faults::{Failed, NoMemory, StoreFault};
+pub use list::{Bytes, List};
