@@ -1,0 +1,4 @@
+pub mod Content
+pub mod Count
+pub mod MemFile
+pub mod StoredFile

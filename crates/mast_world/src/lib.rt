@@ -1,8 +1,21 @@
 //! The world around the engine: lists of bytes, devices, and what a device may do.
 #![tactic(auto)]
 
+mod failing;
 mod faults;
 mod list;
+mod mem_sink;
+mod mem_source;
+mod mem_volume;
+mod sink;
+mod source;
+mod volume;
 
 pub use faults::{Failed, NoMemory, StoreFault};
 pub use list::{Bytes, List};
+pub use mem_sink::MemSink;
+pub use mem_source::{MemFile, MemSource};
+pub use mem_volume::MemVolume;
+pub use sink::Sink;
+pub use source::Source;
+pub use volume::{FileId, Volume};

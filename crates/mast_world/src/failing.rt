@@ -1,0 +1,48 @@
+ghost use Rattle.std.specs.Prelude.{◌≡◌, ◌≤◌, ◌↔◌, OnErr, OnOk, IsErr, Contains};
+ghost use Rattle.mast_world.specs.Count.{counted, HasRisen};
+
+use crate::{Failed, List};
+
+/// Which calls of a device in memory are to fail, counted from 1, and how many failed.
+#[derive(Debug, Drop)]
+pub(crate) struct Failing {
+    planned: List<u64>,
+    calls: u64,
+    pub(crate) faults: u64,
+}
+
+impl Failing {
+    pub(crate) fn new(planned: List<u64>) -> Self
+        ensures { result.faults ≡ 0 }
+    {
+        Failing {
+            planned,
+            calls: 0,
+            faults: 0,
+        }
+    }
+
+    /// Counts a call, which fails where that was planned.
+    pub(crate) fn count_call(&mut self) -> Result<(), Failed>
+        ensures planned { IsErr result ↔ Contains self.old.planned (counted self.old.calls 1) }
+        ensures counted { self.new ≡ record self.old { calls = counted self.old.calls 1; faults = self.new.faults } }
+        ensures ok { OnOk result (self.new.faults ≡ self.old.faults) }
+        ensures err { OnErr result (self.new.faults ≡ counted self.old.faults 1) }
+        ensures kept { self.old.faults ≤ self.new.faults }
+    {
+        self.calls = self.calls.saturating_add(1);
+        if self.planned.as_slice().contains(&self.calls) {
+            return Err(self.fail());
+        }
+        Ok(())
+    }
+
+    /// Fails without a plan, as for want of memory.
+    pub(crate) fn fail(&mut self) -> Failed
+        ensures counted { self.new ≡ record self.old { faults = counted self.old.faults 1 } }
+        ensures kept { self.old.faults ≤ self.new.faults }
+    {
+        self.faults = self.faults.saturating_add(1);
+        Failed
+    }
+}

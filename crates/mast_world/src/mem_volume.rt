@@ -1,0 +1,202 @@
+ghost use Rattle.std.specs.Prelude.{◌≡◌, ◌≢◌, ◌≤◌, IfOk, OnOk, OnErr, IfSome, IfNone, [], length, take};
+ghost use Rattle.std.specs.List.{find};
+ghost use Rattle.mast_world.specs.Content.{overwritten};
+ghost use Rattle.mast_world.specs.StoredFile.{FirstAt, is_of, stored_bytes, stored_put};
+ghost use Rattle.mast_world.specs.Count.{counted_on_ok};
+ghost use Rattle.mast_world.specs.declared.volume.FileId.{FileId};
+
+use crate::failing::Failing;
+use crate::{Failed, FileId, List, Volume};
+use std::alloc::{AllocError, Global};
+
+/// A file of a volume in memory.
+#[derive(Debug, Drop)]
+struct StoredFile {
+    file: FileId,
+    bytes: Vec<u8>,
+    put: u64,
+}
+
+impl StoredFile {
+    fn is_of(&self, file: FileId) -> bool
+        ensures { result ≡ is_of file self.now }
+    {
+        self.file == file
+    }
+}
+
+/// A volume in memory. It takes a list of the calls that are to fail, counted from 1.
+#[derive(Debug, Drop)]
+pub struct MemVolume {
+    alloc: Global,
+    stored: Vec<StoredFile>,
+    failing: Failing,
+}
+
+impl MemVolume {
+    pub fn new(alloc: Global, failing: List<u64>) -> Self
+        ensures empty { (file : FileId) → ⟦<MemVolume as Volume>⟧.reads result file ≡ [] }
+        ensures faults { ⟦<MemVolume as Volume>⟧.faults result ≡ 0 }
+        ensures put { (file : FileId) → ⟦<MemVolume as Volume>⟧.put result file ≡ 0 }
+    {
+        MemVolume {
+            alloc,
+            stored: Vec::new(alloc),
+            failing: Failing::new(failing),
+        }
+    }
+
+    /// What a file contains.
+    pub fn bytes(&self, file: FileId) -> &[u8]
+        ensures { result.now ≡ ⟦<MemVolume as Volume>⟧.reads self.now file }
+    {
+        match position_of(&self.stored, file) {
+            Some(at) => &self.stored[at].bytes,
+            None => &[],
+        }
+    }
+
+    /// How many bytes were written to a file.
+    pub fn put(&self, file: FileId) -> u64
+        ensures { result ≡ ⟦<MemVolume as Volume>⟧.put self.now file }
+    {
+        match position_of(&self.stored, file) {
+            Some(at) => self.stored[at].put,
+            None => 0,
+        }
+    }
+}
+
+/// Where the entry of a file stands.
+fn position_of(stored: &[StoredFile], file: FileId) -> Option<usize>
+    ensures found { IfSome result (λ at. FirstAt stored.now file at) }
+    ensures absent { IfNone result (find (is_of file) stored.now ≡ None) }
+{
+    for (at, entry) in stored.iter().enumerate() {
+        if entry.is_of(file) {
+            return Some(at);
+        }
+    }
+    None
+}
+
+/// Where the entry of a file stands, which is made where there is none.
+fn entry_of(alloc: Global, stored: &mut Vec<StoredFile>, file: FileId) -> Result<usize, AllocError>
+    ensures found { IfOk result (λ at. FirstAt stored.new.items file at) }
+    ensures same_bytes { (f : FileId) → stored_bytes stored.new.items f ≡ stored_bytes stored.old.items f }
+    ensures same_put { (f : FileId) → stored_put stored.new.items f ≡ stored_put stored.old.items f }
+{
+    if let Some(at) = position_of(stored, file) {
+        return Ok(at);
+    }
+    let at = stored.len();
+    stored.push(StoredFile {
+        file,
+        bytes: Vec::new(alloc),
+        put: 0,
+    })?;
+    Ok(at)
+}
+
+/// Writes over what there is from a place on, and past the end.
+fn overwrite(bytes: &mut Vec<u8>, at: usize, new: &[u8]) -> Result<(), AllocError>
+    requires { at ≤ length bytes.old.items }
+    ensures ok { OnOk result (bytes.new.items ≡ overwritten bytes.old.items at new.now) }
+    ensures err { OnErr result (bytes.new.items ≡ bytes.old.items) }
+{
+    let over = new.len().min(bytes.len() - at);
+    bytes.extend_from_slice(&new[over..])?;
+    bytes.as_mut_slice()[at..at + over].copy_from_slice(&new[..over]);
+    Ok(())
+}
+
+/// Writes to the file of an entry, and counts what was written.
+fn write_entry(
+    stored: &mut [StoredFile],
+    file: FileId,
+    entry: usize,
+    at: usize,
+    bytes: &[u8],
+) -> Result<(), AllocError>
+    requires first { FirstAt stored.old file entry }
+    requires at { at ≤ length (stored_bytes stored.old file) }
+    ensures written { OnOk result (stored_bytes stored.new file ≡ overwritten (stored_bytes stored.old file) at bytes.now) }
+    ensures other_bytes { (f : FileId) → f ≢ file → stored_bytes stored.new f ≡ stored_bytes stored.old f }
+    ensures count_put { stored_put stored.new file ≡ counted_on_ok (stored_put stored.old file) (length bytes.now) result }
+    ensures other_put { (f : FileId) → f ≢ file → stored_put stored.new f ≡ stored_put stored.old f }
+{
+    let entry = &mut stored[entry];
+    overwrite(&mut entry.bytes, at, bytes)?;
+    entry.put = entry.put.saturating_add(bytes.len() as u64);
+    Ok(())
+}
+
+/// Writes to a file, and counts what was written.
+fn write_to(
+    alloc: Global,
+    stored: &mut Vec<StoredFile>,
+    file: FileId,
+    at: usize,
+    bytes: &[u8],
+) -> Result<(), AllocError>
+    requires { at ≤ length (stored_bytes stored.old.items file) }
+    ensures written { OnOk result (stored_bytes stored.new.items file ≡ overwritten (stored_bytes stored.old.items file) at bytes.now) }
+    ensures other_bytes { (f : FileId) → f ≢ file → stored_bytes stored.new.items f ≡ stored_bytes stored.old.items f }
+    ensures count_put { stored_put stored.new.items file ≡ counted_on_ok (stored_put stored.old.items file) (length bytes.now) result }
+    ensures other_put { (f : FileId) → f ≢ file → stored_put stored.new.items f ≡ stored_put stored.old.items f }
+{
+    let entry = entry_of(alloc, stored, file)?;
+    write_entry(stored.as_mut_slice(), file, entry, at, bytes)
+}
+
+/// Shortens a file.
+fn cut_to(stored: &mut [StoredFile], file: FileId, len: usize)
+    ensures shortened { stored_bytes stored.new file ≡ take len (stored_bytes stored.old file) }
+    ensures other_bytes { (f : FileId) → f ≢ file → stored_bytes stored.new f ≡ stored_bytes stored.old f }
+    ensures same_put { stored_put stored.new ≡ stored_put stored.old }
+{
+    if let Some(at) = position_of(stored, file) {
+        let entry = &mut stored[at];
+        entry.bytes.truncate(len);
+    }
+}
+
+impl Volume for MemVolume {
+    ghost tells = { Unit {0} };
+
+    ghost reads = { λ volume. stored_bytes volume.stored.items };
+
+    ghost faults = { λ volume. volume.failing.faults };
+
+    ghost put = { λ volume. stored_put volume.stored.items };
+
+    fn len(&mut self, file: FileId) -> Result<u64, Failed> {
+        self.failing.count_call()?;
+        Ok(self.bytes(file).len() as u64)
+    }
+
+    fn read(&mut self, file: FileId, at: u64, into: &mut [u8]) -> Result<(), Failed> {
+        self.failing.count_call()?;
+        let at = at as usize;
+        into.copy_from_slice(&self.bytes(file)[at..at + into.len()]);
+        Ok(())
+    }
+
+    fn write(&mut self, file: FileId, at: u64, bytes: &[u8]) -> Result<(), Failed> {
+        self.failing.count_call()?;
+        match write_to(self.alloc, &mut self.stored, file, at as usize, bytes) {
+            Ok(()) => Ok(()),
+            Err(_) => Err(self.failing.fail()),
+        }
+    }
+
+    fn cut(&mut self, file: FileId, len: u64) -> Result<(), Failed> {
+        self.failing.count_call()?;
+        cut_to(self.stored.as_mut_slice(), file, len as usize);
+        Ok(())
+    }
+
+    fn sync(&mut self, _file: FileId) -> Result<(), Failed> {
+        self.failing.count_call()
+    }
+}
