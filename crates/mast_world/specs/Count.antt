@@ -1,9 +1,9 @@
 -- Counts of 64 bits, which rise and stand still at their end.
-use Rattle.std.specs.Prelude.{ℕ, ◌+◌, ◌-◌, ◌^◌, ◌≤◌, min, Option, Some, None, Result, Ok, Err}
+use Rattle.std.specs.Prelude.{ℕ, ◌+◌, ◌-◌, ◌^◌, ◌≤◌, min, max, Option, Some, None, Result, Ok, Err}
 
--- a count after n more
+-- a count after n more; at its end it stands still
 abbrev pub counted : ℕ → ℕ → ℕ
-counted count n = min (count + n) (2 ^ 64 - 1)
+counted count n = max count (min (count + n) (2 ^ 64 - 1))
 
 -- a count has risen; one that stands at its end counts as risen
 abbrev pub HasRisen : ℕ → ℕ → Type 0

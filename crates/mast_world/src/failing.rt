@@ -3,6 +3,13 @@ ghost use Rattle.mast_world.specs.Count.{counted, HasRisen};
 
 use crate::{Failed, List};
 
+/// A count after n more, which stands still at its end.
+pub(crate) fn count_on(count: u64, n: u64) -> u64
+    ensures { result ≡ counted count n }
+{
+    count.saturating_add(n)
+}
+
 /// Which calls of a device in memory are to fail, counted from 1, and how many failed.
 #[derive(Debug, Drop)]
 pub(crate) struct Failing {
@@ -30,7 +37,7 @@ impl Failing {
         ensures err { OnErr result (self.new.faults ≡ counted self.old.faults 1) }
         ensures kept { self.old.faults ≤ self.new.faults }
     {
-        self.calls = self.calls.saturating_add(1);
+        self.calls = count_on(self.calls, 1);
         if self.planned.as_slice().contains(&self.calls) {
             return Err(self.fail());
         }
@@ -42,7 +49,7 @@ impl Failing {
         ensures counted { self.new ≡ record self.old { faults = counted self.old.faults 1 } }
         ensures kept { self.old.faults ≤ self.new.faults }
     {
-        self.faults = self.faults.saturating_add(1);
+        self.faults = count_on(self.faults, 1);
         Failed
     }
 }

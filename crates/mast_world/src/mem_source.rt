@@ -2,7 +2,7 @@ ghost use Rattle.std.specs.Prelude.{◌≡◌, ◌≤◌, ◌+◌, length, optio
 ghost use Rattle.mast_world.specs.Content.{part};
 ghost use Rattle.mast_world.specs.MemFile.{content, content_of};
 
-use crate::failing::Failing;
+use crate::failing::{Failing, count_on};
 use crate::{Bytes, Failed, List, Source};
 
 /// A file in memory. Its byte j is that of `bytes` where there is one, else `fill`.
@@ -88,7 +88,7 @@ impl Source for MemSource {
         match find_file(self.files.as_slice(), name) {
             Some(file) => Ok(Some(file.size)),
             None => {
-                self.absent = self.absent.saturating_add(1);
+                self.absent = count_on(self.absent, 1);
                 Ok(None)
             }
         }
@@ -99,7 +99,7 @@ impl Source for MemSource {
         find_file(self.files.as_slice(), name)
             .unwrap()
             .copy_to(at, into);
-        self.taken = self.taken.saturating_add(into.len() as u64);
+        self.taken = count_on(self.taken, into.len() as u64);
         Ok(())
     }
 }

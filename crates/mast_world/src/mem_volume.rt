@@ -5,7 +5,7 @@ ghost use Rattle.mast_world.specs.StoredFile.{FirstAt, is_of, stored_bytes, stor
 ghost use Rattle.mast_world.specs.Count.{counted_on_ok};
 ghost use Rattle.mast_world.specs.declared.volume.FileId.{FileId};
 
-use crate::failing::Failing;
+use crate::failing::{Failing, count_on};
 use crate::{Failed, FileId, List, Volume};
 use std::alloc::{AllocError, Global};
 
@@ -127,7 +127,7 @@ fn write_entry(
 {
     let entry = &mut stored[entry];
     overwrite(&mut entry.bytes, at, bytes)?;
-    entry.put = entry.put.saturating_add(bytes.len() as u64);
+    entry.put = count_on(entry.put, bytes.len() as u64);
     Ok(())
 }
 

@@ -39,7 +39,7 @@ pub returns-clause-count_put : goal.returns-clause-count_put
 returns-clause-count_put c =
     let d = c.index-stored-entry.result in
     ap put_in (find_written c.args.stored.now c.args.file c.args.entry _ c.requires.first (c.requires.first.here d))
-    ∙ (c.saturating_add-entry.ensures ∙ ap (λ e. counted (put_in e) (length c.args.bytes.now)) (sym (find_first c.args.stored.now c.args.file c.args.entry d c.requires.first)))
+    ∙ (c.count_on-entry.ensures ∙ ap (λ e. counted (put_in e) (length c.args.bytes.now)) (sym (find_first c.args.stored.now c.args.file c.args.entry d c.requires.first)))
 
 pub returns-clause-other_put : goal.returns-clause-other_put
 returns-clause-other_put c = λ f other.

@@ -1,0 +1,4 @@
+pub mod Engine
+pub mod Item
+pub mod Package
+pub mod Words

@@ -1,0 +1,17 @@
+-- The words of a command.
+use Rattle.std.specs.Prelude.{ℕ, ◌==◌, ◌&&◌, codes, List, [], ◌∷◌, length, slice_index, Bool, not, nat_lt, if◌then◌else◌, Option, Some, None}
+use Rattle.std.specs.Str.{bytes_eq}
+
+-- a word that is no option
+abbrev pub is_positional : List ℕ → Bool
+is_positional word = nat_lt 0 (length word) && not (slice_index word 0 == 45)
+
+-- what `make` is asked for: the name of the project file, and the output folder
+pub record MakeWords : Type 0 where
+  pub project : List ℕ
+  pub out : List ℕ
+
+abbrev pub make_words : List (List ℕ) → Option MakeWords
+make_words (command ∷ project ∷ out ∷ []) =
+    if bytes_eq command (codes "make") && is_positional project && is_positional out then Some (record { project = project; out = out }) else None
+make_words words = None

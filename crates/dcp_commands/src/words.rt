@@ -1,0 +1,49 @@
+ghost use Rattle.std.specs.Prelude.{◌≡◌, map, option_map, string_bytes, IfOk};
+ghost use Rattle.dcp_commands.specs.Words.{MakeWords, is_positional, make_words};
+
+use mast_world::{Bytes, NoMemory};
+use std::alloc::Global;
+
+/// What `make` is asked for.
+#[derive(Clone, Copy, Debug)]
+pub(crate) struct Asked<'a> {
+    /// The name of the project file.
+    pub(crate) project: &'a str,
+    /// The output folder.
+    pub(crate) out: &'a str,
+}
+
+fn is_positional(word: &str) -> bool
+    ensures { result ≡ is_positional word.now }
+{
+    let bytes = word.as_bytes();
+    !bytes.is_empty() && bytes[0] != b'-'
+}
+
+pub(crate) fn make_words(words: &[String]) -> Option<Asked<'_>>
+    ensures { option_map (λ asked. record { project = asked.project.now; out = asked.out.now }) result ≡ make_words (map string_bytes words.now) }
+{
+    let [command, project, out] = words else {
+        return None;
+    };
+    let accepted = command.as_str() == "make"
+        && is_positional(project.as_str())
+        && is_positional(out.as_str());
+    if !accepted {
+        return None;
+    }
+    Some(Asked {
+        project: project.as_str(),
+        out: out.as_str(),
+    })
+}
+
+/// The output folder that the words name, or `None` where they are no accepted `make`.
+pub fn out_name(alloc: Global, words: &[String]) -> Result<Option<Bytes>, NoMemory>
+    ensures { IfOk result (λ name. name ≡ option_map (λ asked. asked.out) (make_words (map string_bytes words.now))) }
+{
+    match make_words(words) {
+        Some(asked) => Ok(Some(Bytes::copy_of(alloc, asked.out.as_bytes())?)),
+        None => Ok(None),
+    }
+}
