@@ -3,8 +3,10 @@
 
 mod engine;
 mod item;
+mod line;
+mod make;
 mod status;
 mod words;
 
-pub use status::BadWhy;
+pub use status::{BadWhy, Status};
 pub use words::out_name;
