@@ -1,18 +1,19 @@
 -- Why `make` ends as it does.
-use Rattle.std.specs.Prelude.{◌≡◌, ◌⊎◌, ℕ, ◌+◌, List, [], length, Option, Some, None, option_map, unwrap_or, IsSome}
+use Rattle.std.specs.Prelude.{◌≡◌, ◌⊎◌, ℕ, ◌+◌, List, [], length, Option, Some, None, option_map, unwrap_or, Result, Ok, Err}
 use Rattle.std.specs.Option.{option_map_or}
 use Rattle.film_project.specs.First.{first_of}
 use Rattle.film_project.specs.declared.first.First.{First}
 use Rattle.dcp_commands.specs.Engine.{IsBadFrame, IsMissingFrame}
 use Rattle.dcp_commands.specs.Package.{Files, codestreams_size, project_of}
 use Rattle.dcp_commands.specs.Words.{MakeWords, make_words}
+use Rattle.dcp_commands.specs.declared.engine.Report.{Report}
 use Rattle.dcp_commands.specs.declared.status.BadWhy.{BadWhy}
 use Rattle.dcp_commands.specs.declared.status.MakeEnd.{MakeEnd}
 use Rattle.dcp_commands.specs.declared.status.MakeEnd.TheVariants as end
 use Rattle.dcp_commands.specs.declared.status.ProjectEnd.{ProjectEnd}
 use Rattle.dcp_commands.specs.declared.status.ProjectEnd.TheVariants as project_end
 use Rattle.dcp_commands.specs.declared.status.Status.{Status}
-use Rattle.dcp_commands.specs.declared.status.Status.TheVariants.{InputMissing, SourceFault, StoreFault, SinkFault, NoMemory, BadFrame, Unbuilt}
+use Rattle.dcp_commands.specs.declared.status.Status.TheVariants.{Done, InputMissing, SourceFault, StoreFault, SinkFault, NoMemory, BadFrame, Unbuilt}
 
 -- the project file is there, and isn't of the first form
 pub record IsUnbuilt (files : Files) (words : List (List ℕ)) : Type 0 where
@@ -72,3 +73,12 @@ make_status end.NoMemory = NoMemory
 -- the answer, but where printing failed, and for want of memory
 abbrev pub Answers : Status → Status → Type 0
 Answers result status = (result ≡ status) ⊎ (result ≡ SinkFault) ⊎ (result ≡ NoMemory)
+
+-- the status of an outcome, and the number of frames that its line shows
+abbrev pub status_of : Result Report Status → Status
+status_of (Ok report) = Done
+status_of (Err status) = status
+
+abbrev pub shown_frames : Result Report Status → ℕ
+shown_frames (Ok report) = report.frames
+shown_frames (Err status) = 0

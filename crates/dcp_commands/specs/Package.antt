@@ -1,12 +1,11 @@
 -- The package of a project that shows ready codestreams, frame by frame.
-use Rattle.std.specs.Prelude.{◌≡◌, ◌⊎◌, ℕ, ◌+◌, ◌-◌, ◌<◌, codes, List, [], ◌∷◌, ◌++◌, length, map, sum_by, replicate, nat_le, if◌then◌else◌, Option, Some, None, option_map, option_and_then, unwrap_or}
+use Rattle.std.specs.Prelude.{ℕ, ◌+◌, ◌-◌, codes, List, [], ◌∷◌, ◌++◌, length, map, sum_by, replicate, nat_le, if◌then◌else◌, Option, Some, None, option_map, option_and_then, unwrap_or}
 use Rattle.std.specs.Fmt.{decimal}
 use Rattle.std.specs.List.{flat_map, range_with_len}
 use Rattle.film_project.specs.First.{first_of}
 use Rattle.film_project.specs.declared.first.First.{First}
-use Rattle.mast_world.specs.Count.{counted}
 use Rattle.dcp_commands.specs.Item.{item}
-use Rattle.dcp_commands.specs.Words.{make_words, MakeWords}
+use Rattle.dcp_commands.specs.Words.{make_words}
 
 -- what the files of a source contain, by their names
 abbrev pub Files : Type 0

@@ -8,5 +8,6 @@ mod make;
 mod status;
 mod words;
 
+pub use make::run_make;
 pub use status::{BadWhy, Status};
 pub use words::out_name;

@@ -1,4 +1,4 @@
-use Rattle.std.proofs.Common.{◌≡◌, Err, refl, ap, ◌∙◌, subst, rules, arith, length, []}
+use Rattle.std.proofs.Common.{◌≡◌, Err, refl, ap, ◌∙◌, arith, length, []}
 use Rattle.std.proofs.lemmas.Result.{err_from_is_err_and}
 use Rattle.dcp_commands.specs.declared.engine.TheConstants.{PICTURE}
 use Rattle.dcp_commands.specs.declared.status.MakeEnd.TheVariants.{BadFrame}

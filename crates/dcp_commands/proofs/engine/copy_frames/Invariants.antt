@@ -1,8 +1,6 @@
-use Rattle.std.proofs.Common.{◌≡◌, ◌≤◌, ◌+◌, ◌*◌, length}
-use Rattle.mast_world.specs.Count.{counted}
+use Rattle.std.proofs.Common.{◌≡◌, ◌≤◌, ◌*◌, length}
 use Rattle.dcp_commands.specs.Engine.{HasCopied}
 use Rattle.dcp_commands.specs.declared.engine.TheConstants.{PICTURE}
-use Rattle.dcp_commands.specs.declared.item.TheConstants.{HEAD}
 use Rattle.dcp_commands.proofs.engine.copy_frames.Given as goal
 
 -- what the frames so far left

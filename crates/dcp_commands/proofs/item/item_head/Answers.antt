@@ -1,4 +1,4 @@
-use Rattle.std.proofs.Common.{rules, refl}
+use Rattle.std.proofs.Common.{rules}
 use Rattle.dcp_commands.specs.Item.{item_head}
 use Rattle.dcp_commands.proofs.item.item_head.Goals as goal
 

@@ -1,5 +1,4 @@
-use Rattle.std.proofs.Common.{◌≡◌, List, ℕ, Err, inr, refl, sym, ap, ◌∙◌, subst, rules, arith}
-use Rattle.std.proofs.lemmas.Grind.{common_steps}
+use Rattle.std.proofs.Common.{◌≡◌, List, ℕ, Err, inr, ap, ◌∙◌, rules}
 use Rattle.std.proofs.lemmas.Result.{err_from_is_err_and}
 use Rattle.dcp_commands.specs.Make.{make_status}
 use Rattle.dcp_commands.specs.declared.status.MakeEnd.{MakeEnd}
