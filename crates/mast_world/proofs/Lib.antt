@@ -1,3 +1,4 @@
+pub mod FileEntryLemmas
 pub mod Find
 pub mod SameFile
 pub mod StoredFileLemmas

@@ -1,6 +1,6 @@
 -- `same_file` tells files apart.
 use Rattle.std.proofs.Common.{◌≡◌, true, refl, ap, rules}
-use Rattle.mast_world.specs.StoredFile.{same_file}
+use Rattle.mast_world.specs.FileEntry.{same_file}
 use Rattle.mast_world.specs.declared.volume.FileId.{FileId}
 use Rattle.mast_world.specs.declared.volume.FileId.TheVariants.{Picture, Sound, Cpl, Pkl, AssetMap, VolIndex, Job, Info, Spill}
 

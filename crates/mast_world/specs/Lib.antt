@@ -1,4 +1,5 @@
 pub mod Content
 pub mod Count
+pub mod FileEntry
 pub mod MemFile
 pub mod StoredFile

@@ -4,7 +4,7 @@ ghost use Rattle.mast_world.specs.Count.{counted, HasRisen};
 use crate::{Failed, List};
 
 /// A count after n more, which stands still at its end.
-pub(crate) fn count_on(count: u64, n: u64) -> u64
+pub fn count_on(count: u64, n: u64) -> u64
     ensures { result ≡ counted count n }
 {
     count.saturating_add(n)

@@ -3,6 +3,7 @@
 
 mod failing;
 mod faults;
+mod file_entry;
 mod list;
 mod mem_sink;
 mod mem_source;
@@ -11,7 +12,9 @@ mod sink;
 mod source;
 mod volume;
 
+pub use failing::count_on;
 pub use faults::{Failed, NoMemory, StoreFault};
+pub use file_entry::{FileEntry, position_of};
 pub use list::{Bytes, List};
 pub use mem_sink::MemSink;
 pub use mem_source::{MemFile, MemSource};

@@ -1,35 +1,27 @@
-ghost use Rattle.std.specs.Prelude.{◌≡◌, ◌≢◌, ◌≤◌, IfOk, OnOk, OnErr, IfSome, IfNone, [], length, take};
-ghost use Rattle.std.specs.List.{find};
+ghost use Rattle.std.specs.Prelude.{◌≡◌, ◌≢◌, ◌≤◌, IfOk, OnOk, OnErr, [], length, take};
 ghost use Rattle.mast_world.specs.Content.{overwritten};
-ghost use Rattle.mast_world.specs.StoredFile.{FirstAt, is_of, stored_bytes, stored_put};
+ghost use Rattle.mast_world.specs.FileEntry.{FirstAt};
+ghost use Rattle.mast_world.specs.StoredFile.{stored_bytes, stored_put};
 ghost use Rattle.mast_world.specs.Count.{counted_on_ok};
 ghost use Rattle.mast_world.specs.declared.volume.FileId.{FileId};
 
 use crate::failing::{Failing, count_on};
+use crate::file_entry::{FileEntry, position_of};
 use crate::{Failed, FileId, List, Volume};
 use std::alloc::{AllocError, Global};
 
 /// A file of a volume in memory.
 #[derive(Debug, Drop)]
 struct StoredFile {
-    file: FileId,
     bytes: Vec<u8>,
     put: u64,
-}
-
-impl StoredFile {
-    fn is_of(&self, file: FileId) -> bool
-        ensures { result ≡ is_of file self.now }
-    {
-        self.file == file
-    }
 }
 
 /// A volume in memory. It takes a list of the calls that are to fail, counted from 1.
 #[derive(Debug, Drop)]
 pub struct MemVolume {
     alloc: Global,
-    stored: Vec<StoredFile>,
+    stored: Vec<FileEntry<StoredFile>>,
     failing: Failing,
 }
 
@@ -51,7 +43,7 @@ impl MemVolume {
         ensures { result.now ≡ ⟦<MemVolume as Volume>⟧.reads self.now file }
     {
         match position_of(&self.stored, file) {
-            Some(at) => &self.stored[at].bytes,
+            Some(at) => &self.stored[at].value.bytes,
             None => &[],
         }
     }
@@ -61,27 +53,18 @@ impl MemVolume {
         ensures { result ≡ ⟦<MemVolume as Volume>⟧.put self.now file }
     {
         match position_of(&self.stored, file) {
-            Some(at) => self.stored[at].put,
+            Some(at) => self.stored[at].value.put,
             None => 0,
         }
     }
 }
 
-/// Where the entry of a file stands.
-fn position_of(stored: &[StoredFile], file: FileId) -> Option<usize>
-    ensures found { IfSome result (λ at. FirstAt stored.now file at) }
-    ensures absent { IfNone result (find (is_of file) stored.now ≡ None) }
-{
-    for (at, entry) in stored.iter().enumerate() {
-        if entry.is_of(file) {
-            return Some(at);
-        }
-    }
-    None
-}
-
 /// Where the entry of a file stands, which is made where there is none.
-fn entry_of(alloc: Global, stored: &mut Vec<StoredFile>, file: FileId) -> Result<usize, AllocError>
+fn entry_of(
+    alloc: Global,
+    stored: &mut Vec<FileEntry<StoredFile>>,
+    file: FileId,
+) -> Result<usize, AllocError>
     ensures found { IfOk result (λ at. FirstAt stored.new.items file at) }
     ensures same_bytes { (f : FileId) → stored_bytes stored.new.items f ≡ stored_bytes stored.old.items f }
     ensures same_put { (f : FileId) → stored_put stored.new.items f ≡ stored_put stored.old.items f }
@@ -90,11 +73,11 @@ fn entry_of(alloc: Global, stored: &mut Vec<StoredFile>, file: FileId) -> Result
         return Ok(at);
     }
     let at = stored.len();
-    stored.push(StoredFile {
-        file,
+    let value = StoredFile {
         bytes: Vec::new(alloc),
         put: 0,
-    })?;
+    };
+    stored.push(FileEntry { file, value })?;
     Ok(at)
 }
 
@@ -112,7 +95,7 @@ fn overwrite(bytes: &mut Vec<u8>, at: usize, new: &[u8]) -> Result<(), AllocErro
 
 /// Writes to the file of an entry, and counts what was written.
 fn write_entry(
-    stored: &mut [StoredFile],
+    stored: &mut [FileEntry<StoredFile>],
     file: FileId,
     entry: usize,
     at: usize,
@@ -126,15 +109,15 @@ fn write_entry(
     ensures other_put { (f : FileId) → f ≢ file → stored_put stored.new f ≡ stored_put stored.old f }
 {
     let entry = &mut stored[entry];
-    overwrite(&mut entry.bytes, at, bytes)?;
-    entry.put = count_on(entry.put, bytes.len() as u64);
+    overwrite(&mut entry.value.bytes, at, bytes)?;
+    entry.value.put = count_on(entry.value.put, bytes.len() as u64);
     Ok(())
 }
 
 /// Writes to a file, and counts what was written.
 fn write_to(
     alloc: Global,
-    stored: &mut Vec<StoredFile>,
+    stored: &mut Vec<FileEntry<StoredFile>>,
     file: FileId,
     at: usize,
     bytes: &[u8],
@@ -150,14 +133,14 @@ fn write_to(
 }
 
 /// Shortens a file.
-fn cut_to(stored: &mut [StoredFile], file: FileId, len: usize)
+fn cut_to(stored: &mut [FileEntry<StoredFile>], file: FileId, len: usize)
     ensures shortened { stored_bytes stored.new file ≡ take len (stored_bytes stored.old file) }
     ensures other_bytes { (f : FileId) → f ≢ file → stored_bytes stored.new f ≡ stored_bytes stored.old f }
     ensures same_put { stored_put stored.new ≡ stored_put stored.old }
 {
     if let Some(at) = position_of(stored, file) {
         let entry = &mut stored[at];
-        entry.bytes.truncate(len);
+        entry.value.bytes.truncate(len);
     }
 }
 

@@ -1,7 +1,8 @@
 use Rattle.std.proofs.Common.{take, sym, refl, ◌∙◌, ap}
 use mathlib.Core.Path.{fun_ext}
 use Rattle.mast_world.specs.StoredFile.{bytes_in}
-use Rattle.mast_world.proofs.StoredFileLemmas.{find_first, find_written, find_others, put_kept}
+use Rattle.mast_world.proofs.FileEntryLemmas.{find_first, find_written, find_others}
+use Rattle.mast_world.proofs.StoredFileLemmas.{put_kept}
 use Rattle.mast_world.proofs.mem_volume.cut_to.Goals as goal
 
 pub returns-in-Some-clause-shortened : goal.returns-in-Some-clause-shortened

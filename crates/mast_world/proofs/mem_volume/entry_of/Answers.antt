@@ -1,5 +1,6 @@
 use Rattle.std.proofs.Common.{refl, ◌∙◌, ap}
-use Rattle.mast_world.specs.StoredFile.{is_of, bytes_in, put_in, stored_bytes, stored_put}
+use Rattle.mast_world.specs.FileEntry.{is_of}
+use Rattle.mast_world.specs.StoredFile.{bytes_in, put_in, stored_bytes, stored_put}
 use Rattle.mast_world.proofs.Find.{find_push_same}
 use Rattle.mast_world.proofs.mem_volume.entry_of.Goals as goal
 

@@ -3,7 +3,7 @@ use Rattle.std.proofs.lemmas.Result.{err_from_is_err_and}
 use Rattle.mast_world.specs.Content.{overwritten}
 use Rattle.mast_world.specs.Count.{counted}
 use Rattle.mast_world.specs.StoredFile.{bytes_in, put_in}
-use Rattle.mast_world.proofs.StoredFileLemmas.{find_first, find_written, find_others}
+use Rattle.mast_world.proofs.FileEntryLemmas.{find_first, find_written, find_others}
 use Rattle.mast_world.proofs.mem_volume.write_entry.Goals as goal
 
 pub overwrite-requires : goal.overwrite-requires
