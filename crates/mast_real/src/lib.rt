@@ -1,13 +1,10 @@
-// A library with one function.
+//! The edge of the real world: folders, files and standard output. They tell no contents.
 #![tactic(auto)]
 
-ghost use Rattle.std.specs.Prelude.{◌≡◌};
-ghost use Rattle.mast_real.specs.Echo.{echo_of};
+mod folder_source;
+mod folder_volume;
+mod std_sink;
 
-// The `ensures` clause is the contract: what `echo` returns is `echo_of` of its argument, a definition
-// in `specs/Echo.antt`, which a caller's clause can cite too.
-pub fn echo(x: usize) -> usize
-    ensures { result ≡ echo_of x }
-{
-    x
-}
+pub use folder_source::FolderSource;
+pub use folder_volume::FolderVolume;
+pub use std_sink::StdSink;
