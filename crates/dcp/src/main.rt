@@ -1,0 +1,51 @@
+//! `dcp`: makes cinema packages.
+#![tactic(auto)]
+
+use dcp_commands::{out_name, run_make};
+use mast_real::{FolderSource, FolderVolume, StdSink};
+use mast_world::Bytes;
+use std::alloc::{AllocError, Global};
+use std::io::ErrorKind;
+use std::process::ExitCode;
+use std::rt::Env;
+use std::{env, io};
+
+/// The exit status where memory is wanted before anything can be done.
+const NO_MEMORY: u8 = 11;
+
+/// The words behind the program's name. Words that aren't UTF-8 are as good as none: both are refused.
+fn read_words<R: Env + AllocGlobal>(rt: &R) -> io::Result<Vec<String>> {
+    match env::args(rt) {
+        Ok(words) => Ok(words.skip(1).collect(rt.alloc())?),
+        Err(error) if error.kind() == ErrorKind::InvalidData => Ok(Vec::new(rt.alloc())),
+        Err(error) => Err(error),
+    }
+}
+
+/// The output folder, or the current one, which isn't written where the words are refused.
+fn folder_of(alloc: Global, name: Option<Bytes>) -> Result<String, AllocError> {
+    match name {
+        Some(name) => String::from_utf8_lossy(alloc, name.as_slice()),
+        None => String::from_str(alloc, "."),
+    }
+}
+
+fn run(rt: &HostRuntime) -> io::Result<u8> {
+    let alloc = rt.alloc();
+    let words = read_words(rt)?;
+    let Ok(name) = out_name(alloc, &words) else {
+        return Ok(NO_MEMORY);
+    };
+    let mut source = FolderSource::new(rt.clone()?);
+    let mut volume = FolderVolume::new(rt.clone()?, alloc, folder_of(alloc, name)?);
+    let mut out = StdSink::new(rt.clone()?);
+    let status = run_make(alloc, &words, &mut source, &mut volume, &mut out);
+    Ok(status.exit_code())
+}
+
+fn main(rt: HostRuntime) -> ExitCode {
+    match run(&rt) {
+        Ok(code) => ExitCode::from(code),
+        Err(_) => ExitCode::from(NO_MEMORY),
+    }
+}
