@@ -3,6 +3,8 @@
 
 mod faults;
 mod list;
+mod picture;
 
 pub use faults::{Failed, NoMemory, StoreFault};
 pub use list::{Bytes, List};
+pub use picture::{Band, BandKind, Limits, Params, Shape, Task};
