@@ -1,0 +1,5 @@
+pub mod Colour
+pub mod Wavelet
+pub mod Bands
+pub mod Quantiser
+pub mod Precincts
