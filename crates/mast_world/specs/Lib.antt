@@ -3,3 +3,5 @@ pub mod Wavelet
 pub mod Bands
 pub mod Quantiser
 pub mod Precincts
+pub mod TagTree
+pub mod PacketHeader

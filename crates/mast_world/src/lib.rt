@@ -3,8 +3,10 @@
 
 mod faults;
 mod list;
+mod packet;
 mod picture;
 
 pub use faults::{Failed, NoMemory, StoreFault};
 pub use list::{Bytes, List};
+pub use packet::{BandShape, HeadRefusal, PacketBand, PacketBlock, PacketRead};
 pub use picture::{Band, BandKind, Limits, Params, Shape, Task};
