@@ -1,40 +1,40 @@
-use Rattle.std.specs.Prelude.{◌≡◌, refl, ℕ, pos, negsuc, [], ◌∷◌, map, replicate, List, ℤ, neg_ℤ}
-use Rattle.mast_world.specs.Colour.{greatest_from, code_value, xyz_value, x_weights, y_weights, z_weights}
-use Rattle.mast_world.specs.Wavelet.{lifted, even_samples, odd_samples, transformed_line, luma, chroma_blue, chroma_red, shifted}
+use Rattle.std.specs.Prelude.{◌≡◌, refl, ℕ, pos, negsuc, [], ◌∷◌, ◌++◌, map, replicate, List, ℤ, neg_ℤ, true, false}
+use Rattle.std.specs.List.{flat_map}
 use Rattle.mast_world.specs.Bands.{all_bands, component_bands, resolution_bands, rank, band_columns, band_rows}
-use Rattle.mast_world.specs.Precincts.{packet_order}
-use Rattle.mast_world.specs.declared.picture.Shape.{Shape}
+use Rattle.mast_world.specs.TagTree
+use Rattle.mast_world.specs.TagTree.{grid_of, levels_from, new_tree, path_bits, path_told, leaves_bits, leaf_bits, leaf_told, blank_levels, blank_tree, path_wants, path_pushed, pushed, leaf_value}
+use Rattle.mast_world.specs.PacketHeader.{low_bits, pass_bits, blocks_bits, packed_into, packed, packet, bit_length}
+use Rattle.mast_world.specs.declared.packet.PacketBlock.{PacketBlock}
+use Rattle.mast_world.specs.declared.packet.PacketBand.{PacketBand}
 
-pub a : xyz_value 11 x_weights 65535 65535 65535 ≡ 0
-unfolding greatest_from code_value
+pub a : flat_map pass_bits (1 ∷ 2 ∷ 5 ∷ 6 ∷ 36 ∷ 37 ∷ []) ≡ []
+unfolding low_bits
 a = refl
 
-pub b : xyz_value 12 y_weights 65535 65535 65535 ≡ 0
-unfolding greatest_from code_value
+pub b : packed (replicate 9 true) ++ packed (replicate 8 true) ≡ []
+unfolding packed_into
 b = refl
 
-pub c : xyz_value 12 z_weights 65535 65535 65535 ≡ 0
-unfolding greatest_from code_value
+pub c : leaves_bits 1 (new_tree 2 1 (0 ∷ 1 ∷ [])) (0 ∷ 1 ∷ []) ≡ []
+unfolding grid_of levels_from new_tree path_bits path_told leaves_bits
 c = refl
 
-pub d : transformed_line (replicate 7 (neg_ℤ (pos 16777216))) ≡ []
-unfolding transformed_line lifted even_samples odd_samples
+abbrev included : PacketBlock
+included = record { included = true; zero_planes = 11; passes = 1; codeword = 3 ∷ [] }
+
+abbrev missing : PacketBlock
+missing = record { included = false; zero_planes = 0; passes = 0; codeword = [] }
+
+abbrev band : PacketBlock → PacketBand
+band b = record { columns = 1; rows = 1; blocks = b ∷ [] }
+
+pub d : packet (band included ∷ band missing ∷ band missing ∷ []) ≡ []
+unfolding grid_of levels_from new_tree path_bits path_told leaves_bits low_bits blocks_bits packed_into packet
 d = refl
 
-pub e : map rank all_bands ≡ []
-unfolding all_bands component_bands resolution_bands
+pub e : map bit_length (0 ∷ 1 ∷ 2 ∷ 255 ∷ 256 ∷ []) ≡ []
 e = refl
 
-abbrev shape : Shape
-shape = record { width = 33; height = 47 }
-
-pub f : map (band_columns shape) (component_bands 0) ≡ []
-unfolding component_bands resolution_bands
+pub f : leaf_value (pushed false 1 (pushed true 1 (pushed true 1 (blank_tree 2 1) 0) 0) 1) 0 ≡ leaf_value (pushed false 1 (pushed true 1 (pushed true 1 (blank_tree 2 1) 0) 0) 1) 1
+unfolding blank_levels blank_tree path_wants path_pushed
 f = refl
-
-pub g : map (λ p. p.resolution) (packet_order (record { width = 2048; height = 1080 })) ≡ []
-unfolding packet_order
-g = refl
-
-pub h : luma (shifted 4095) (shifted 2048) (shifted 2048) ≡ pos 0
-h = refl

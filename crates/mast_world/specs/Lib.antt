@@ -3,5 +3,10 @@ pub mod Wavelet
 pub mod Bands
 pub mod Quantiser
 pub mod Precincts
+pub mod Bits
 pub mod TagTree
 pub mod PacketHeader
+pub mod Mq
+pub mod Contexts
+pub mod BlockDecisions
+pub mod BlockReading

@@ -3,26 +3,12 @@
 --     packed bits          the bytes of a header's bits, with a zero bit behind each FF
 --     packet bands         a packet's bytes
 use Rattle.std.specs.Prelude.{ℕ, zero, suc, ◌+◌, ◌-◌, ◌*◌, ◌/◌, ◌^◌, ◌%◌, ◌==◌, Bool, true, false, if◌then◌else◌, nat_lt, nat_le, List, [], ◌∷◌, ◌++◌, map, length, replicate}
-use Rattle.std.specs.Int.{from_bool, leading_zeros, w64}
+use Rattle.std.specs.Int.{from_bool}
 use Rattle.std.specs.List.{flat_map, list_any}
 use Rattle.mast_world.specs.declared.packet.PacketBlock.{PacketBlock}
 use Rattle.mast_world.specs.declared.packet.PacketBand.{PacketBand}
+use Rattle.mast_world.specs.Bits.{low_bits, bit_length, log2}
 use Rattle.mast_world.specs.TagTree.{Tree, new_tree, leaf_bits, leaf_told}
-
--- ---- numbers as bits
-
--- the lowest k bits of n, the highest of them first
-unfoldable pub low_bits : ℕ → ℕ → List Bool
-low_bits zero n = []
-low_bits (suc k) n = (n / 2 ^ k % 2 == 1) ∷ low_bits k n
-
--- the least number of bits that holds n
-abbrev pub bit_length : ℕ → ℕ
-bit_length n = 64 - leading_zeros w64 n
-
--- the logarithm to base 2 of n, rounded down, for n above 0
-abbrev pub log2 : ℕ → ℕ
-log2 n = bit_length n - 1
 
 -- ---- passes and lengths (Annex B.10.6 and B.10.7)
 
