@@ -5,14 +5,13 @@
 --     rank band                                        its place, from 0 to 47, in the order in which cuts take a bit-plane away
 --     lowest_plane cut band                            the lowest bit-plane that is kept
 --     component_bands j, all_bands                     the sub-bands in the order in which coefficients are listed
-use Rattle.std.specs.Prelude.{ℕ, zero, suc, ◌+◌, ◌-◌, ◌*◌, ◌/◌, ◌^◌, ◌%◌, Bool, true, false, if◌then◌else◌, nat_lt, from_bits, List, [], ◌∷◌, ◌++◌, take, drop}
+use Rattle.std.specs.Prelude.{ℕ, zero, suc, ◌+◌, ◌-◌, ◌*◌, ◌/◌, ◌^◌, ◌%◌, Bool, true, false, if◌then◌else◌, nat_lt, List, [], ◌∷◌, ◌++◌, take, drop, sum_by, ℤ}
 use Rattle.std.specs.Int.{div_ceil, from_bool}
 use Rattle.std.specs.List.{flat_map}
 use Rattle.mast_world.specs.declared.picture.Shape.{Shape}
 use Rattle.mast_world.specs.declared.picture.Band.{Band}
 use Rattle.mast_world.specs.declared.picture.BandKind.{BandKind}
 use Rattle.mast_world.specs.declared.picture.BandKind.TheVariants.{LL, HL, LH, HH}
-use Rattle.std.specs.Prelude.{ℤ}
 
 -- ---- sizes (equation B-15)
 
@@ -114,11 +113,25 @@ component_bands component = flat_map (resolution_bands component) (0 ∷ 1 ∷ 2
 unfoldable pub all_bands : List Band
 all_bands = flat_map component_bands (0 ∷ 1 ∷ 2 ∷ [])
 
+-- ---- coefficients: one list that has those of each sub-band in turn, in raster order
+
 -- how many samples a sub-band has
 abbrev pub band_length : Shape → Band → ℕ
 band_length shape band = band_columns shape band * band_rows shape band
 
--- the coefficients of each of these sub-bands in turn, of a list that has those of all of them
-unfoldable pub band_values : Shape → List Band → List ℤ → List (List ℤ)
-band_values shape [] values = []
-band_values shape (band ∷ bands) values = take (band_length shape band) values ∷ band_values shape bands (drop (band_length shape band) values)
+-- the place of a sub-band among all
+abbrev pub kind_place : ℕ → BandKind → ℕ
+kind_place level LL = 0
+kind_place level HL = 3 * (5 - level) + 1
+kind_place level LH = 3 * (5 - level) + 2
+kind_place level HH = 3 * (5 - level) + 3
+
+abbrev pub band_place : Band → ℕ
+band_place band = 16 * band.component + kind_place band.level band.kind
+
+-- where its coefficients begin, and which they are
+abbrev pub band_start : Shape → Band → ℕ
+band_start shape band = sum_by (band_length shape) (take (band_place band) all_bands)
+
+unfoldable pub band_values : Shape → List ℤ → Band → List ℤ
+band_values shape coefficients band = take (band_length shape band) (drop (band_start shape band) coefficients)

@@ -1,4 +1,5 @@
 pub mod Colour
+pub mod Grid
 pub mod Wavelet
 pub mod Bands
 pub mod Quantiser
@@ -10,3 +11,6 @@ pub mod Mq
 pub mod Contexts
 pub mod BlockDecisions
 pub mod BlockReading
+pub mod Codestream
+pub mod Cut
+pub mod Encode

@@ -5,17 +5,7 @@
 --     wants t tree at, pushed bit t tree at, leaf_value tree at    what a reader of these bits knows
 use Rattle.std.specs.Prelude.{ℕ, zero, suc, ◌+◌, ◌-◌, ◌*◌, ◌/◌, ◌^◌, ◌%◌, ◌==◌, min, max, Bool, true, false, not, ◌&&◌, ◌||◌, if◌then◌else◌, nat_lt, List, [], ◌∷◌, ◌++◌, map, length, slice_index_or, slice_set, take, drop, replicate, Option, Some, None}
 use Rattle.std.specs.Int.{div_ceil}
-
--- a grid is a list of rows; the rows of a list of items in raster order
-unfoldable pub grid_of : {A : Type 0} → ℕ → ℕ → List A → List (List A)
-grid_of columns zero items = []
-grid_of columns (suc rows) items = take columns items ∷ grid_of columns rows (drop columns items)
-
-abbrev pub grid_item : {A : Type 0} → A → List (List A) → ℕ → ℕ → A
-grid_item outside grid x y = slice_index_or (slice_index_or grid y []) x outside
-
-abbrev pub with_grid_item : {A : Type 0} → List (List A) → ℕ → ℕ → A → List (List A)
-with_grid_item grid x y item = slice_set grid y (slice_set (slice_index_or grid y []) x item)
+use Rattle.mast_world.specs.Grid.{grid_of, grid_item, with_grid_item}
 
 -- ---- the tree of values: each node is the least of its children
 

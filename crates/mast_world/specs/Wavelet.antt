@@ -7,6 +7,7 @@
 use Rattle.std.specs.Prelude.{ℕ, zero, suc, ◌+◌, ◌-◌, ◌*◌, ◌/◌, ◌^◌, ◌%◌, ◌==◌, Bool, true, false, if◌then◌else◌, List, [], ◌∷◌, ◌++◌, map, length, slice_index_or, take, drop, ℤ, pos, negsuc, ◌+ℤ◌, ◌-ℤ◌, ◌*ℤ◌, neg_ℤ}
 use Rattle.std.specs.Int.{int_shr, int_min, int_max, div_ceil}
 use Rattle.std.specs.List.{range_with_len}
+use Rattle.mast_world.specs.Grid.{columns_of, part_of, with_corner}
 
 -- ---- the component transform (Annex G.3), after the level shift (Annex G.1), of code values of 12 bits
 
@@ -70,34 +71,13 @@ four_steps line = lifted (pos 29066) 0 (lifted (pos 57862) 1 (lifted (neg_ℤ (p
 unfoldable pub transformed_line : List ℤ → List ℤ
 transformed_line line = map (scaled (pos 53274)) (even_samples (four_steps line)) ++ map (scaled (pos 80621)) (odd_samples (four_steps line))
 
--- ---- levels (Annex F.4.2 to F.4.4); an area is a list of rows
-
--- each item in front of the row beside it
-abbrev pub in_front : List ℤ → List (List ℤ) → List (List ℤ)
-in_front [] rows = []
-in_front (x ∷ xs) [] = (x ∷ []) ∷ in_front xs []
-in_front (x ∷ xs) (row ∷ rows) = (x ∷ row) ∷ in_front xs rows
-
--- the columns of a list of rows
-unfoldable pub columns_of : List (List ℤ) → List (List ℤ)
-columns_of [] = []
-columns_of (row ∷ rows) = in_front row (columns_of rows)
+-- ---- levels (Annex F.4.2 to F.4.4); an area is a grid of samples
 
 abbrev pub clamped : ℤ → ℤ
 clamped v = int_max (neg_ℤ (pos (2 ^ 26))) (int_min v (pos (2 ^ 26)))
 
 unfoldable pub level : List (List ℤ) → List (List ℤ)
 level rows = map (map clamped) (map transformed_line (columns_of (map transformed_line (columns_of rows))))
-
--- the part of a list of rows from column x and row y on
-abbrev pub part_of : ℕ → ℕ → ℕ → ℕ → List (List ℤ) → List (List ℤ)
-part_of x y columns rows area = map (λ row. take columns (drop x row)) (take rows (drop y area))
-
--- the rows with those of a corner in the upper left
-abbrev pub with_corner : List (List ℤ) → List (List ℤ) → List (List ℤ)
-with_corner [] area = area
-with_corner (c ∷ corner) [] = []
-with_corner (c ∷ corner) (row ∷ area) = (c ++ drop (length c) row) ∷ with_corner corner area
 
 -- of n samples in a line, how many are low
 abbrev pub low_count : ℕ → ℕ
