@@ -14,3 +14,7 @@ pub mod BlockReading
 pub mod Codestream
 pub mod Cut
 pub mod Encode
+pub mod Reading
+pub mod PacketReading
+pub mod MainReading
+pub mod StreamReading
