@@ -29,14 +29,14 @@ is_high_in_columns LH = true
 is_high_in_columns HH = true
 
 -- how many of n samples are in the low or the high part at this level
-abbrev pub part_length : ℕ → ℕ → Bool → ℕ
-part_length n level high = div_ceil (n - 2 ^ (level - 1) * from_bool high) (2 ^ level)
+abbrev pub band_side : ℕ → ℕ → Bool → ℕ
+band_side n level high = div_ceil (n - 2 ^ (level - 1) * from_bool high) (2 ^ level)
 
 abbrev pub band_columns : Shape → Band → ℕ
-band_columns shape band = part_length shape.width band.level (is_high_in_rows band.kind)
+band_columns shape band = band_side shape.width band.level (is_high_in_rows band.kind)
 
 abbrev pub band_rows : Shape → Band → ℕ
-band_rows shape band = part_length shape.height band.level (is_high_in_columns band.kind)
+band_rows shape band = band_side shape.height band.level (is_high_in_columns band.kind)
 
 -- ---- quantisation (equation E-3); with one guard bit a band has as many bit-planes as its exponent says (equation E-2)
 

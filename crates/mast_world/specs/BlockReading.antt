@@ -50,8 +50,8 @@ sign_read a p x y k =
       significant = with_sample a.width k.significant x y
     }
 
-abbrev pub bit_read : Area → ℕ → ℕ → ℕ → Known → Known
-bit_read a p x y k =
+abbrev pub zero_bit_read : Area → ℕ → ℕ → ℕ → Known → Known
+zero_bit_read a p x y k =
     let context = known_zero_context a k x y in
     if next_bit context k then sign_read a p x y (behind_bit context k) else behind_bit context k
 
@@ -64,7 +64,7 @@ abbrev pub marked_visited : Area → ℕ → ℕ → Known → Known
 marked_visited a x y k = record k { visited = with_sample a.width k.visited x y }
 
 abbrev pub propagation_at : Area → ℕ → ℕ → Known → ℕ → Known
-propagation_at a p x k y = if propagation_reads a k x y then marked_visited a x y (bit_read a p x y k) else k
+propagation_at a p x k y = if propagation_reads a k x y then marked_visited a x y (zero_bit_read a p x y k) else k
 
 -- ---- magnitude refinement
 
@@ -83,7 +83,7 @@ abbrev pub cleanup_reads : Area → Known → ℕ → ℕ → Bool
 cleanup_reads a k x y = not (known_significant a k x y) && not (known_visited a k x y)
 
 abbrev pub cleanup_at : Area → ℕ → ℕ → Known → ℕ → Known
-cleanup_at a p x k y = if cleanup_reads a k x y then bit_read a p x y k else k
+cleanup_at a p x k y = if cleanup_reads a k x y then zero_bit_read a p x y k else k
 
 abbrev pub reads_run : Area → Known → Column → Bool
 reads_run a k column = (length column.rows == 4) && list_all (λ y. cleanup_reads a k column.x y && (known_zero_context a k column.x y == 0)) column.rows

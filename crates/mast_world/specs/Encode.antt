@@ -34,11 +34,11 @@ wave shape plane = transformed 5 shape.width shape.height (grid_of shape.width s
 
 -- ---- sub-bands, as five levels leave them: the low part of each direction comes first
 
-abbrev pub part_start : ℕ → ℕ → Bool → ℕ
-part_start n level high = if high then div_ceil n (2 ^ level) else 0
+abbrev pub band_side_start : ℕ → ℕ → Bool → ℕ
+band_side_start n level high = if high then div_ceil n (2 ^ level) else 0
 
 abbrev pub band_part : Shape → List (List ℤ) → Band → List ℤ
-band_part shape area band = items_of (part_of (part_start shape.width band.level (is_high_in_rows band.kind)) (part_start shape.height band.level (is_high_in_columns band.kind)) (band_columns shape band) (band_rows shape band) area)
+band_part shape area band = items_of (part_of (band_side_start shape.width band.level (is_high_in_rows band.kind)) (band_side_start shape.height band.level (is_high_in_columns band.kind)) (band_columns shape band) (band_rows shape band) area)
 
 -- the quantised coefficients, of the transformed planes of the components
 unfoldable pub quantised_planes : Shape → (ℕ → List (List ℤ)) → List ℤ

@@ -97,8 +97,8 @@ module _ (bytes : List ℕ) where
   passes_from false = done 1
   passes_from true = bit_read >>= more_passes
 
-  unfoldable pub passes_read : Bits ℕ
-  passes_read = bit_read >>= passes_from
+  unfoldable pub pass_count_read : Bits ℕ
+  pass_count_read = bit_read >>= passes_from
 
   -- how many ones there are in front of a zero, behind n that were read
   unfoldable pub ones_read_within : ℕ → ℕ → Bits ℕ
@@ -128,7 +128,7 @@ module _ (bytes : List ℕ) where
   abbrev pub included_read : ℕ → ℕ → FoundTree → Bits BlockHead
   included_read mb at planes = do
     zero_planes ← planes_known (leaf_value planes at)
-    passes ← passes_read
+    passes ← pass_count_read
     checked ← passes_checked (mb - zero_planes) passes
     size ← size_read checked
     done (record { included = true; zero_planes = zero_planes; passes = checked; size = size })

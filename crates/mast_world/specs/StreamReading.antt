@@ -55,8 +55,8 @@ packets_read bytes head component (precinct ∷ precincts) at =
 -- ---- tile-parts (Annex A.4.2)
 
 -- the next marker, if there is one byte of it, is judged before the part's length
-unfoldable pub part_end : List ℕ → ℕ → ℕ → ℕ → ℕ → ℕ → Result ℕ ReadRefusal
-part_end bytes component len start marker at =
+unfoldable pub tile_part_end : List ℕ → ℕ → ℕ → ℕ → ℕ → ℕ → Result ℕ ReadRefusal
+tile_part_end bytes component len start marker at =
     if length bytes == suc at && not_len then Err (PartLength component len)
     else on_ok (marker_step (marker_at bytes (λ m. m == marker) at)) (λ m.
     if not_len then Err (PartLength component len) else Ok at)
@@ -72,23 +72,23 @@ abbrev pub stated_length : MainHead → ℕ → ℕ
 stated_length head component = slice_index head.parts component
 
 -- from behind the marker SOT up to the packets
-abbrev pub part_start : List ℕ → MainHead → ℕ → ℕ → Result ℕ MarkerRefusal
-part_start bytes head component at =
+abbrev pub tile_part_start : List ℕ → MainHead → ℕ → ℕ → Result ℕ MarkerRefusal
+tile_part_start bytes head component at =
     on_ok (fields_end bytes (fixed 2 10 ∷ fixed 2 0 ∷ fixed 4 (stated_length head component) ∷ fixed 1 component ∷ fixed 1 3 ∷ []) at) (λ data_at.
     on_ok (marker_at bytes (λ m. m == 0xFF93) data_at) (λ m. Ok (data_at + 2)))
 
-abbrev pub part_read : List ℕ → MainHead → ℕ → ℕ → Result (List (List PacketBand) × ℕ) ReadRefusal
-part_read bytes head component at =
-    on_ok (marker_step (part_start bytes head component (at + 2))) (λ packets_at.
+abbrev pub tile_part_read : List ℕ → MainHead → ℕ → ℕ → Result (List (List PacketBand) × ℕ) ReadRefusal
+tile_part_read bytes head component at =
+    on_ok (marker_step (tile_part_start bytes head component (at + 2))) (λ packets_at.
     on_ok (packets_read bytes head component (packet_order head.shape) packets_at) (λ (r : List (List PacketBand) × ℕ).
-    on_ok (part_end bytes component (stated_length head component) at (marker_behind component) r.1) (λ next.
+    on_ok (tile_part_end bytes component (stated_length head component) at (marker_behind component) r.1) (λ next.
     Ok (r.0, next))))
 
 -- the parts of these components in turn
 unfoldable pub parts_read : List ℕ → MainHead → List ℕ → ℕ → Result (List (List (List PacketBand)) × ℕ) ReadRefusal
 parts_read bytes head [] at = Ok ([], at)
 parts_read bytes head (component ∷ components) at =
-    on_ok (part_read bytes head component at) (λ (r : List (List PacketBand) × ℕ).
+    on_ok (tile_part_read bytes head component at) (λ (r : List (List PacketBand) × ℕ).
     on_ok (parts_read bytes head components r.1) (λ rest.
     Ok (r.0 ∷ rest.0, rest.1)))
 
