@@ -61,6 +61,12 @@ packed_into (suc k) byte (bit ∷ bits) = packed_into k (byte + from_bool bit * 
 abbrev pub packed : List Bool → List ℕ
 packed bits = packed_into 7 0 bits
 
+-- whether FF is the last of these bytes
+unfoldable pub ends_with_ff : List ℕ → Bool
+ends_with_ff [] = false
+ends_with_ff (byte ∷ []) = byte == 255
+ends_with_ff (a ∷ b ∷ bytes) = ends_with_ff (b ∷ bytes)
+
 -- ---- the packet
 
 abbrev pub is_included : PacketBlock → Bool

@@ -3,7 +3,7 @@
 --     precinct_columns shape r        how many precincts resolution r has in a row; likewise rows
 --     blocks_in shape band precinct   the code-blocks of a precinct in a sub-band
 --     packet_order shape              the packets of a component in their order
-use Rattle.std.specs.Prelude.{ℕ, zero, suc, ◌+◌, ◌-◌, ◌*◌, ◌/◌, ◌^◌, ◌%◌, ◌==◌, Bool, true, false, not, ◌&&◌, ◌||◌, if◌then◌else◌, nat_lt, min, List, [], ◌∷◌, ◌++◌, map}
+use Rattle.std.specs.Prelude.{◌≡◌, ◌<◌, ◌≤◌, ℕ, zero, suc, ◌+◌, ◌-◌, ◌*◌, ◌/◌, ◌^◌, ◌%◌, ◌==◌, Bool, true, false, not, ◌&&◌, ◌||◌, if◌then◌else◌, nat_lt, min, List, [], ◌∷◌, ◌++◌, map}
 use Rattle.std.specs.Int.{div_ceil}
 use Rattle.std.specs.List.{flat_map, range_with_len}
 use Rattle.mast_world.specs.declared.picture.Shape.{Shape}
@@ -50,6 +50,16 @@ pub record BlockArea : Type 0 where
 -- of n things in a line, how many the group of this number has where groups have size things
 abbrev pub group_length : ℕ → ℕ → ℕ → ℕ
 group_length n size group = min size (n - size * group)
+
+-- thing x is in this group, and x is in exactly one of the groups that n things make
+abbrev pub IsInGroup : ℕ → ℕ → ℕ → ℕ → Type 0
+IsInGroup n size x group = (size * group ≤ x) × (x < size * group + group_length n size group)
+
+pub record OneGroup (n size x : ℕ) : Type 0 where
+  pub group : ℕ
+  pub counted : group < div_ceil n size
+  pub holds : IsInGroup n size x group
+  pub alone : (other : ℕ) → IsInGroup n size x other → other ≡ group
 
 abbrev pub block_columns : Shape → Band → ℕ
 block_columns shape band = div_ceil (band_columns shape band) 32

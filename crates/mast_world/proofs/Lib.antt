@@ -1,0 +1,4 @@
+pub mod BandLaws
+pub mod BlockLaws
+pub mod QuantiserLaws
+pub mod HeaderLaws
