@@ -2,3 +2,5 @@ pub mod BandLaws
 pub mod BlockLaws
 pub mod QuantiserLaws
 pub mod HeaderLaws
+pub mod ColourLaws
+pub mod CutLaws
