@@ -1,10 +1,17 @@
-//! Worked values of the codec's definitions, each computed by the check. No code rests on this crate.
+//! Worked values of the codec's definitions, each computed by the check, and laws that they meet.
+//! No code rests on this crate.
 #![tactic(auto)]
 
-ghost use Rattle.std.specs.Prelude.{◌≡◌};
-ghost use Rattle.mast_world.specs.Colour.{xyz_value, x_weights};
+mod bands;
+mod blocks;
+mod colour;
+mod packets;
+mod streams;
+mod transform;
 
-pub fn colour()
-    ensures white { xyz_value 11 x_weights 65535 65535 65535 ≡ 3883 }
-{
-}
+pub use bands::{packet_orders, sub_band_laws, sub_band_values};
+pub use blocks::{block_values, coder_values};
+pub use colour::{colour_laws, colour_values};
+pub use packets::{header_laws, header_values, packet_values, tag_tree_values};
+pub use streams::{cut_laws, reading_values, zero_stream_values};
+pub use transform::{component_values, lifting_values, quantiser_laws, quantiser_values};

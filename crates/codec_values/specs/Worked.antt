@@ -1,0 +1,81 @@
+-- The inputs of worked values.
+use Rattle.std.specs.Prelude.{ℕ, Bool, true, false, List, [], ◌∷◌, map, ℤ, pos, negsuc}
+use Rattle.mast_world.specs.declared.picture.Shape.{Shape}
+use Rattle.mast_world.specs.declared.picture.BandKind.{BandKind}
+use Rattle.mast_world.specs.declared.picture.BandKind.TheVariants.{LL}
+use Rattle.mast_world.specs.declared.packet.PacketBlock.{PacketBlock}
+use Rattle.mast_world.specs.declared.packet.PacketBand.{PacketBand}
+use Rattle.mast_world.specs.declared.packet.BandShape.{BandShape}
+use Rattle.mast_world.specs.Mq.{Decision}
+use Rattle.mast_world.specs.BlockDecisions.{Block}
+
+-- ---- the arithmetic coder and code-blocks
+
+abbrev pub decision : ℕ → Bool → Decision
+decision context bit = record { context = context; bit = bit }
+
+abbrev pub bits_in : ℕ → List Bool → List Decision
+bits_in context bits = map (decision context) bits
+
+-- 0, 1 1 1 1 1 1 1 0 1 0 0, 0 0 0 0 0 0 0 0
+abbrev pub known_context_bits : List Bool
+known_context_bits =
+    false ∷ true ∷ true ∷ true ∷ true ∷ true ∷ true ∷ true ∷ false ∷ true ∷ false ∷ false
+    ∷ false ∷ false ∷ false ∷ false ∷ false ∷ false ∷ false ∷ false ∷ []
+
+abbrev pub one_sample : BandKind → ℤ → Block
+one_sample kind value = record { kind = kind; width = 1; height = 1; values = value ∷ [] }
+
+abbrev pub four_by_four : Block
+four_by_four = record {
+    kind = LL;
+    width = 4;
+    height = 4;
+    values =
+      negsuc 0 ∷ pos 0 ∷ pos 0 ∷ pos 0
+      ∷ pos 0 ∷ pos 0 ∷ pos 0 ∷ pos 0
+      ∷ pos 0 ∷ negsuc 0 ∷ pos 0 ∷ pos 0
+      ∷ pos 0 ∷ pos 0 ∷ pos 1 ∷ pos 0 ∷ []
+  }
+
+-- ---- packets
+
+abbrev pub included_block : PacketBlock
+included_block = record { included = true; zero_planes = 11; passes = 1; codeword = 0x03 ∷ [] }
+
+abbrev pub missing_block : PacketBlock
+missing_block = record { included = false; zero_planes = 0; passes = 0; codeword = [] }
+
+abbrev pub band_of_one : PacketBlock → PacketBand
+band_of_one block = record { columns = 1; rows = 1; blocks = block ∷ [] }
+
+abbrev pub three_bands : List PacketBand
+three_bands = band_of_one included_block ∷ band_of_one missing_block ∷ band_of_one missing_block ∷ []
+
+abbrev pub no_bands : List PacketBand
+no_bands = band_of_one missing_block ∷ band_of_one missing_block ∷ band_of_one missing_block ∷ []
+
+abbrev pub shape_of_one : BandShape
+shape_of_one = record { columns = 1; rows = 1; mb = 12 }
+
+abbrev pub three_shapes : List BandShape
+three_shapes = shape_of_one ∷ shape_of_one ∷ shape_of_one ∷ []
+
+-- ---- the smallest picture, all zero
+
+abbrev pub small : Shape
+small = record { width = 32; height = 32 }
+
+abbrev pub zero_stream : List ℕ
+zero_stream =
+    0xFF ∷ 0x4F ∷ 0xFF ∷ 0x51 ∷ 0x00 ∷ 0x2F ∷ 0x00 ∷ 0x03 ∷ 0x00 ∷ 0x00 ∷ 0x00 ∷ 0x20 ∷ 0x00 ∷ 0x00 ∷ 0x00 ∷ 0x20 ∷ 0x00 ∷ 0x00 ∷ 0x00 ∷ 0x00 ∷ 0x00 ∷ 0x00 ∷ 0x00 ∷ 0x00
+    ∷ 0x00 ∷ 0x00 ∷ 0x00 ∷ 0x20 ∷ 0x00 ∷ 0x00 ∷ 0x00 ∷ 0x20 ∷ 0x00 ∷ 0x00 ∷ 0x00 ∷ 0x00 ∷ 0x00 ∷ 0x00 ∷ 0x00 ∷ 0x00 ∷ 0x00 ∷ 0x03 ∷ 0x0B ∷ 0x01 ∷ 0x01 ∷ 0x0B ∷ 0x01 ∷ 0x01 ∷ 0x0B ∷ 0x01 ∷ 0x01
+    ∷ 0xFF ∷ 0x52 ∷ 0x00 ∷ 0x12 ∷ 0x01 ∷ 0x04 ∷ 0x00 ∷ 0x01 ∷ 0x01 ∷ 0x05 ∷ 0x03 ∷ 0x03 ∷ 0x00 ∷ 0x00 ∷ 0x77 ∷ 0x88 ∷ 0x88 ∷ 0x88 ∷ 0x88 ∷ 0x88
+    ∷ 0xFF ∷ 0x5C ∷ 0x00 ∷ 0x23 ∷ 0x22 ∷ 0x70 ∷ 0x00 ∷ 0x79 ∷ 0x00 ∷ 0x79 ∷ 0x00 ∷ 0x7A ∷ 0x00 ∷ 0x71 ∷ 0x00 ∷ 0x71 ∷ 0x00 ∷ 0x72 ∷ 0x00 ∷ 0x69 ∷ 0x00 ∷ 0x69 ∷ 0x00 ∷ 0x6A ∷ 0x00
+    ∷ 0x69 ∷ 0x00 ∷ 0x69 ∷ 0x00 ∷ 0x6A ∷ 0x00 ∷ 0x61 ∷ 0x00 ∷ 0x61 ∷ 0x00 ∷ 0x62 ∷ 0x00
+    ∷ 0xFF ∷ 0x55 ∷ 0x00 ∷ 0x13 ∷ 0x00 ∷ 0x50 ∷ 0x00 ∷ 0x00 ∷ 0x00 ∷ 0x00 ∷ 0x14 ∷ 0x00 ∷ 0x00 ∷ 0x00 ∷ 0x00 ∷ 0x14 ∷ 0x00 ∷ 0x00 ∷ 0x00 ∷ 0x00 ∷ 0x14
+    ∷ 0xFF ∷ 0x64 ∷ 0x00 ∷ 0x0C ∷ 0x00 ∷ 0x00 ∷ 0x43 ∷ 0x55 ∷ 0x54 ∷ 0x31 ∷ 0x00 ∷ 0x00 ∷ 0x00 ∷ 0x00
+    ∷ 0xFF ∷ 0x90 ∷ 0x00 ∷ 0x0A ∷ 0x00 ∷ 0x00 ∷ 0x00 ∷ 0x00 ∷ 0x00 ∷ 0x14 ∷ 0x00 ∷ 0x03 ∷ 0xFF ∷ 0x93 ∷ 0x00 ∷ 0x00 ∷ 0x00 ∷ 0x00 ∷ 0x00 ∷ 0x00
+    ∷ 0xFF ∷ 0x90 ∷ 0x00 ∷ 0x0A ∷ 0x00 ∷ 0x00 ∷ 0x00 ∷ 0x00 ∷ 0x00 ∷ 0x14 ∷ 0x01 ∷ 0x03 ∷ 0xFF ∷ 0x93 ∷ 0x00 ∷ 0x00 ∷ 0x00 ∷ 0x00 ∷ 0x00 ∷ 0x00
+    ∷ 0xFF ∷ 0x90 ∷ 0x00 ∷ 0x0A ∷ 0x00 ∷ 0x00 ∷ 0x00 ∷ 0x00 ∷ 0x00 ∷ 0x14 ∷ 0x02 ∷ 0x03 ∷ 0xFF ∷ 0x93 ∷ 0x00 ∷ 0x00 ∷ 0x00 ∷ 0x00 ∷ 0x00 ∷ 0x00
+    ∷ 0xFF ∷ 0xD9 ∷ []
