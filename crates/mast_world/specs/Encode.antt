@@ -2,7 +2,7 @@
 --     coefficients width height power raw    the quantised coefficients
 --     task_cut task, encoding task           the cut and the codestream of a task
 --     kept_coefficients shape cut q          what of coefficients q is kept at a cut
-use Rattle.std.specs.Prelude.{ℕ, zero, suc, ◌-◌, ◌^◌, Bool, true, false, if◌then◌else◌, List, map, ℤ}
+use Rattle.std.specs.Prelude.{ℕ, zero, suc, ◌-◌, ◌^◌, Bool, true, false, if◌then◌else◌, List, [], ◌∷◌, map, slice_index_or, ℤ}
 use Rattle.std.specs.Int.{div_ceil}
 use Rattle.std.specs.List.{flat_map}
 use Rattle.mast_world.specs.declared.picture.Shape.{Shape}
@@ -20,13 +20,11 @@ use Rattle.mast_world.specs.Cut.{least_cut}
 -- ---- planes
 
 -- of components 0, 1 and 2, from planes of X', Y' and Z'
-abbrev pub component_plane : ℕ → List ℕ → List ℕ → List ℕ → List ℤ
-component_plane zero xs ys zs = component luma xs ys zs
-component_plane (suc zero) xs ys zs = component chroma_blue xs ys zs
-component_plane (suc (suc n)) xs ys zs = component chroma_red xs ys zs
+abbrev pub component_planes : List ℕ → List ℕ → List ℕ → List (List ℤ)
+component_planes xs ys zs = component luma xs ys zs ∷ component chroma_blue xs ys zs ∷ component chroma_red xs ys zs ∷ []
 
-abbrev pub picture_plane : ℕ → List ℕ → ℕ → List ℤ
-picture_plane power raw j = component_plane j (xyz_plane power x_weights raw) (xyz_plane power y_weights raw) (xyz_plane power z_weights raw)
+abbrev pub picture_planes : ℕ → List ℕ → List (List ℤ)
+picture_planes power raw = component_planes (xyz_plane power x_weights raw) (xyz_plane power y_weights raw) (xyz_plane power z_weights raw)
 
 -- five levels (Annex F.4.1)
 unfoldable pub wave : Shape → List ℤ → List (List ℤ)
@@ -41,11 +39,11 @@ abbrev pub band_part : Shape → List (List ℤ) → Band → List ℤ
 band_part shape area band = items_of (part_of (band_side_start shape.width band.level (is_high_in_rows band.kind)) (band_side_start shape.height band.level (is_high_in_columns band.kind)) (band_columns shape band) (band_rows shape band) area)
 
 -- the quantised coefficients, of the transformed planes of the components
-unfoldable pub quantised_planes : Shape → (ℕ → List (List ℤ)) → List ℤ
-quantised_planes shape planes = flat_map (λ band. map (quantised band) (band_part shape (planes band.component) band)) all_bands
+unfoldable pub quantised_planes : Shape → List (List (List ℤ)) → List ℤ
+quantised_planes shape planes = flat_map (λ band. map (quantised band) (band_part shape (slice_index_or planes band.component []) band)) all_bands
 
 unfoldable pub coefficients : Shape → ℕ → List ℕ → List ℤ
-coefficients shape power raw = quantised_planes shape (λ j. wave shape (picture_plane power raw j))
+coefficients shape power raw = quantised_planes shape (map (wave shape) (picture_planes power raw))
 
 -- ---- tasks
 
