@@ -1,8 +1,9 @@
-ghost use Rattle.std.specs.Prelude.{◌≡◌, ◌*◌, ◌<◌, ℕ, IsTrue, [], ◌∷◌, map, take, sum_by, count_by, ◌==◌};
-ghost use Rattle.std.specs.List.{list_all, range_with_len};
+ghost use Rattle.std.specs.Prelude.{◌≡◌, ◌*◌, ◌<◌, ℕ, ℤ, List, length, IsTrue, [], ◌∷◌, map, take, sum_by, count_by, ◌==◌};
+ghost use Rattle.std.specs.List.{list_all, range_with_len, flat_map, AllByRecursion};
 ghost use Rattle.mast_world.specs.declared.picture.Shape.{Shape};
-ghost use Rattle.mast_world.specs.Bands.{component_bands, all_bands, band_columns, band_rows, band_length, rank, band_place};
-ghost use Rattle.mast_world.specs.Precincts.{precinct_columns, precinct_rows, packet_order, OneGroup};
+ghost use Rattle.mast_world.specs.Bands.{component_bands, all_bands, band_columns, band_rows, band_length, rank, band_place, band_values};
+ghost use Rattle.mast_world.specs.Encode.{kept_coefficients};
+ghost use Rattle.mast_world.specs.Precincts.{precinct_columns, precinct_rows, packet_order, OneGroup, HasPrecincts};
 
 /// The sub-bands of a picture of 33 columns and 47 rows, and the order of all sub-bands.
 pub fn sub_band_values()
@@ -16,11 +17,19 @@ pub fn sub_band_values()
 }
 
 /// The sub-bands of a component have as many samples as the picture, and each sample along a side
-/// is in exactly one code-block, as each code-block is in exactly one precinct.
+/// is in exactly one code-block, as each code-block is in exactly one precinct, of which there are enough.
 pub fn sub_band_laws()
     ensures sizes { (shape : Shape) (component : ℕ) → sum_by (band_length shape) (component_bands component) ≡ shape.width * shape.height }
     ensures blocks { (n x : ℕ) → x < n → OneGroup n 32 x }
     ensures precincts { (n x : ℕ) → x < n → OneGroup n 4 x }
+    ensures reach { (shape : Shape) (component : ℕ) → AllByRecursion (HasPrecincts shape) (component_bands component) }
+{
+}
+
+/// A picture's coefficients are those of its sub-bands in turn, and cut 0 keeps them all.
+pub fn coefficient_laws()
+    ensures in_turn { (shape : Shape) (q : List ℤ) → length q ≡ 3 * (shape.width * shape.height) → flat_map (band_values shape q) all_bands ≡ q }
+    ensures cut_zero { (shape : Shape) (q : List ℤ) → length q ≡ 3 * (shape.width * shape.height) → kept_coefficients shape 0 q ≡ q }
 {
 }
 

@@ -4,3 +4,5 @@ pub mod QuantiserLaws
 pub mod HeaderLaws
 pub mod ColourLaws
 pub mod CutLaws
+pub mod CoefficientLaws
+pub mod StreamLaws

@@ -3,7 +3,7 @@
 --     plane_decisions block p    those of bit-plane p
 --     decisions block p          those of the bit-planes from the highest down to p
 -- Each decision is a function of the values and of the set of samples that are significant before it.
-use Rattle.std.specs.Prelude.{ℕ, zero, suc, ◌+◌, ◌-◌, ◌*◌, ◌/◌, ◌^◌, ◌%◌, ◌==◌, max, Bool, true, false, not, ◌&&◌, ◌||◌, if◌then◌else◌, nat_le, List, [], ◌∷◌, ◌++◌, map, length, drop, slice_index, slice_index_or, ℤ, pos, unsigned_abs, Option, Some, None, fold, position}
+use Rattle.std.specs.Prelude.{ℕ, zero, suc, ◌+◌, ◌-◌, ◌*◌, ◌/◌, ◌^◌, ◌%◌, ◌==◌, max, Bool, true, false, not, ◌&&◌, ◌||◌, if◌then◌else◌, nat_le, List, [], ◌∷◌, ◌++◌, map, length, drop, replicate, slice_index, slice_index_or, ℤ, pos, unsigned_abs, Option, Some, None, fold, position}
 use Rattle.std.specs.Int.{is_negative}
 use Rattle.std.specs.List.{flat_map, list_all}
 use Rattle.mast_world.specs.declared.picture.BandKind.{BandKind}
@@ -92,8 +92,11 @@ abbrev pub cleaned : Block → ℕ → ℕ → Walk → ℕ → Walk
 cleaned b p x w y = if is_left b w x y then bit_told b p x y w else w
 
 -- whether a column is coded as a run: it has four samples, all left and with zero context 0
+abbrev pub may_run : Block → Walk → ℕ → ℕ → Bool
+may_run b w x y = is_left b w x y && (zero_context_of b w x y == 0)
+
 abbrev pub is_run : Block → Walk → Column → Bool
-is_run b w column = (length column.rows == 4) && list_all (λ y. is_left b w column.x y && (zero_context_of b w column.x y == 0)) column.rows
+is_run b w column = (length column.rows == 4) && list_all (may_run b w column.x) column.rows
 
 -- the bit in context 17 says whether any of the four becomes significant; two bits in context 18 say which is the first
 abbrev pub run_end : Block → ℕ → Column → Walk → Option ℕ → Walk
@@ -111,18 +114,27 @@ column_cleaned b p w column = if is_run b w column then run_told b p w column el
 
 -- ---- passes and planes
 
+abbrev pub column_propagated : Block → ℕ → Walk → Column → Walk
+column_propagated b p w column = fold (propagated b p column.x) w column.rows
+
+abbrev pub column_refined : Block → ℕ → Walk → Column → Walk
+column_refined b p w column = fold (refined b p column.x) w column.rows
+
 unfoldable pub propagation : Block → ℕ → Walk → Walk
-propagation b p w = fold (λ w column. fold (propagated b p column.x) w column.rows) w (scan b.width b.height)
+propagation b p w = fold (column_propagated b p) w (scan b.width b.height)
 
 unfoldable pub refinement : Block → ℕ → Walk → Walk
-refinement b p w = fold (λ w column. fold (refined b p column.x) w column.rows) w (scan b.width b.height)
+refinement b p w = fold (column_refined b p) w (scan b.width b.height)
 
 unfoldable pub cleanup : Block → ℕ → Walk → Walk
 cleanup b p w = fold (column_cleaned b p) w (scan b.width b.height)
 
 -- before plane p those samples are significant that have a bit above it
+abbrev pub is_significant_above : ℕ → ℤ → Bool
+is_significant_above p v = nat_le (2 ^ suc p) (unsigned_abs v)
+
 abbrev pub plane_start : Block → ℕ → Walk
-plane_start b p = record { decisions = []; significant = map (λ v. nat_le (2 ^ suc p) (unsigned_abs v)) b.values; visited = map (λ v. false) b.values }
+plane_start b p = record { decisions = []; significant = map (is_significant_above p) b.values; visited = replicate (length b.values) false }
 
 -- the highest plane has a cleanup pass alone, each further one all three
 unfoldable pub first_plane_decisions : Block → ℕ → List Decision

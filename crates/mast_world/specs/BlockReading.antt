@@ -85,8 +85,11 @@ cleanup_reads a k x y = not (known_significant a k x y) && not (known_visited a 
 abbrev pub cleanup_at : Area → ℕ → ℕ → Known → ℕ → Known
 cleanup_at a p x k y = if cleanup_reads a k x y then zero_bit_read a p x y k else k
 
+abbrev pub may_read_run : Area → Known → ℕ → ℕ → Bool
+may_read_run a k x y = cleanup_reads a k x y && (known_zero_context a k x y == 0)
+
 abbrev pub reads_run : Area → Known → Column → Bool
-reads_run a k column = (length column.rows == 4) && list_all (λ y. cleanup_reads a k column.x y && (known_zero_context a k column.x y == 0)) column.rows
+reads_run a k column = (length column.rows == 4) && list_all (may_read_run a k column.x) column.rows
 
 -- the row of the first sample of a run that becomes significant
 abbrev pub run_row : Known → ℕ
@@ -103,11 +106,17 @@ cleanup_column a p k column = if reads_run a k column then run_read a p column k
 
 -- ---- passes
 
+abbrev pub propagation_column : Area → ℕ → Known → Column → Known
+propagation_column a p k column = fold (propagation_at a p column.x) k column.rows
+
+abbrev pub refinement_column : Area → ℕ → Known → Column → Known
+refinement_column a p k column = fold (refinement_at a p column.x) k column.rows
+
 unfoldable pub propagation_read : Area → ℕ → Known → Known
-propagation_read a p k = fold (λ k column. fold (propagation_at a p column.x) k column.rows) k (scan a.width a.height)
+propagation_read a p k = fold (propagation_column a p) k (scan a.width a.height)
 
 unfoldable pub refinement_read : Area → ℕ → Known → Known
-refinement_read a p k = fold (λ k column. fold (refinement_at a p column.x) k column.rows) k (scan a.width a.height)
+refinement_read a p k = fold (refinement_column a p) k (scan a.width a.height)
 
 -- a cleanup pass ends its plane
 unfoldable pub cleanup_read : Area → ℕ → Known → Known

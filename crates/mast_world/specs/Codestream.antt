@@ -46,11 +46,14 @@ row_places area y = map (λ x. (x, y)) (range_with_len area.x area.columns)
 abbrev pub block_places : BlockArea → List (ℕ × ℕ)
 block_places area = flat_map (row_places area) (range_with_len area.y area.rows)
 
+abbrev pub placed_block : Shape → Band → List ℤ → ℕ → ℕ × ℕ → PacketBlock
+placed_block shape band values p place = packet_block band p (block_of shape band values place.0 place.1)
+
 unfoldable pub packet_band : Shape → List ℤ → ℕ → ℕ → Band → PacketBand
 packet_band shape q cut precinct band =
     let area = blocks_in shape band precinct in
     let values = band_values shape q band in
-    record { columns = area.columns; rows = area.rows; blocks = map (λ (place : ℕ × ℕ). packet_block band (lowest_plane cut band) (block_of shape band values place.0 place.1)) (block_places area) }
+    record { columns = area.columns; rows = area.rows; blocks = map (placed_block shape band values (lowest_plane cut band)) (block_places area) }
 
 abbrev pub precinct_packet : Shape → List ℤ → ℕ → ℕ → Precinct → List ℕ
 precinct_packet shape q cut component precinct = packet (map (packet_band shape q cut precinct.number) (resolution_bands component precinct.resolution))

@@ -39,8 +39,11 @@ abbrev pub band_part : Shape → List (List ℤ) → Band → List ℤ
 band_part shape area band = items_of (part_of (band_side_start shape.width band.level (is_high_in_rows band.kind)) (band_side_start shape.height band.level (is_high_in_columns band.kind)) (band_columns shape band) (band_rows shape band) area)
 
 -- the quantised coefficients, of the transformed planes of the components
+abbrev pub quantised_band : Shape → List (List (List ℤ)) → Band → List ℤ
+quantised_band shape planes band = map (quantised band) (band_part shape (slice_index_or planes band.component []) band)
+
 unfoldable pub quantised_planes : Shape → List (List (List ℤ)) → List ℤ
-quantised_planes shape planes = flat_map (λ band. map (quantised band) (band_part shape (slice_index_or planes band.component []) band)) all_bands
+quantised_planes shape planes = flat_map (quantised_band shape planes) all_bands
 
 unfoldable pub coefficients : Shape → ℕ → List ℕ → List ℤ
 coefficients shape power raw = quantised_planes shape (map (wave shape) (picture_planes power raw))
@@ -61,5 +64,8 @@ encoding task = stream (shape_of task.params) (task_coefficients task) (task_cut
 
 -- ---- what a cut keeps
 
+abbrev pub kept_band : Shape → ℕ → List ℤ → Band → List ℤ
+kept_band shape cut q band = map (kept (lowest_plane cut band)) (band_values shape q band)
+
 unfoldable pub kept_coefficients : Shape → ℕ → List ℤ → List ℤ
-kept_coefficients shape cut q = flat_map (λ band. map (kept (lowest_plane cut band)) (band_values shape q band)) all_bands
+kept_coefficients shape cut q = flat_map (kept_band shape cut q) all_bands

@@ -70,6 +70,11 @@ block_rows shape band = div_ceil (band_rows shape band) 32
 abbrev pub blocks_at : Shape → Band → ℕ → ℕ → BlockArea
 blocks_at shape band px py = record { x = 4 * px; y = 4 * py; columns = group_length (block_columns shape band) 4 px; rows = group_length (block_rows shape band) 4 py }
 
+-- a resolution's precincts, of four blocks in each direction, reach over all blocks of the sub-band
+pub record HasPrecincts (shape : Shape) (band : Band) : Type 0 where
+  pub in_columns : block_columns shape band ≤ 4 * precinct_columns shape (resolution band)
+  pub in_rows : block_rows shape band ≤ 4 * precinct_rows shape (resolution band)
+
 -- precincts are numbered in raster order
 abbrev pub blocks_in : Shape → Band → ℕ → BlockArea
 blocks_in shape band precinct = let across = precinct_columns shape (resolution band) in blocks_at shape band (precinct % across) (precinct / across)

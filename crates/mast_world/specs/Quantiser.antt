@@ -1,4 +1,4 @@
--- Quantisation: ITU-T T.800 Annex E.1.1 (equation E-1); the saturation is this project's own.
+-- Quantisation: ITU-T T.800 Annex E.2; the saturation is this project's own.
 --     quantised band v      the quantised value of a transformed sample
 --     kept p v              a value without its bit-planes below p
 use Rattle.std.specs.Prelude.{ℕ, ◌-◌, ◌/◌, ◌^◌, ◌%◌, min, ℤ, pos, negsuc, neg_ℤ, unsigned_abs}
