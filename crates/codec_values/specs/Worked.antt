@@ -28,15 +28,15 @@ one_sample kind value = record { kind = kind; width = 1; height = 1; values = va
 
 abbrev pub four_by_four : Block
 four_by_four = record {
-    kind = LL;
-    width = 4;
-    height = 4;
-    values =
+  kind = LL;
+  width = 4;
+  height = 4;
+  values =
       negsuc 0 ∷ pos 0 ∷ pos 0 ∷ pos 0
       ∷ pos 0 ∷ pos 0 ∷ pos 0 ∷ pos 0
       ∷ pos 0 ∷ negsuc 0 ∷ pos 0 ∷ pos 0
-      ∷ pos 0 ∷ pos 0 ∷ pos 1 ∷ pos 0 ∷ []
-  }
+      ∷ pos 0 ∷ pos 0 ∷ pos 1 ∷ pos 0 ∷ [];
+}
 
 -- ---- packets
 

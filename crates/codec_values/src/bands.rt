@@ -13,8 +13,7 @@ pub fn sub_band_values()
     // Each number from 0 to 47 is the rank of exactly one sub-band.
     ensures ranks { IsTrue (list_all (λ n. count_by (λ band. rank band == n) all_bands == 1) (range_with_len 0 48)) }
     ensures places { map band_place all_bands ≡ range_with_len 0 48 }
-{
-}
+{}
 
 /// The sub-bands of a component have as many samples as the picture, and each sample along a side
 /// is in exactly one code-block, as each code-block is in exactly one precinct, of which there are enough.
@@ -23,15 +22,13 @@ pub fn sub_band_laws()
     ensures blocks { (n x : ℕ) → x < n → OneGroup n 32 x }
     ensures precincts { (n x : ℕ) → x < n → OneGroup n 4 x }
     ensures reach { (shape : Shape) (component : ℕ) → AllByRecursion (HasPrecincts shape) (component_bands component) }
-{
-}
+{}
 
 /// A picture's coefficients are those of its sub-bands in turn, and cut 0 keeps them all.
 pub fn coefficient_laws()
     ensures in_turn { (shape : Shape) (q : List ℤ) → length q ≡ 3 * (shape.width * shape.height) → flat_map (band_values shape q) all_bands ≡ q }
     ensures cut_zero { (shape : Shape) (q : List ℤ) → length q ≡ 3 * (shape.width * shape.height) → kept_coefficients shape 0 q ≡ q }
-{
-}
+{}
 
 /// Precincts and the first packets of a full picture and of a narrow one, by resolution and number.
 pub fn packet_orders()
@@ -41,5 +38,4 @@ pub fn packet_orders()
     ensures full_numbers { map (λ p. p.number) (take 8 (packet_order (record { width = 2048; height = 1080 }))) ≡ 0 ∷ 0 ∷ 0 ∷ 0 ∷ 0 ∷ 0 ∷ 1 ∷ 1 ∷ [] }
     ensures narrow_resolutions { map (λ p. p.resolution) (packet_order (record { width = 255; height = 257 })) ≡ 0 ∷ 1 ∷ 2 ∷ 3 ∷ 4 ∷ 5 ∷ 5 ∷ [] }
     ensures narrow_numbers { map (λ p. p.number) (packet_order (record { width = 255; height = 257 })) ≡ 0 ∷ 0 ∷ 0 ∷ 0 ∷ 0 ∷ 0 ∷ 1 ∷ [] }
-{
-}
+{}

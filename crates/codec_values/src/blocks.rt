@@ -10,8 +10,7 @@ pub fn coder_values()
     ensures none { codeword [] ≡ 0xFF ∷ 0x7F ∷ [] }
     ensures one { codeword (decision 18 false ∷ []) ≡ 0x7F ∷ [] }
     ensures carry { codeword (bits_in 18 known_context_bits) ≡ 0x01 ∷ 0x01 ∷ 0xFF ∷ 0x7F ∷ [] }
-{
-}
+{}
 
 /// Code-blocks of one sample and of four by four.
 pub fn block_values()
@@ -25,5 +24,4 @@ pub fn block_values()
     ensures run_read { block_read (record { kind = LL; width = 4; height = 4 }) 1 1 (0x11 ∷ 0xE4 ∷ 0xB1 ∷ []) ≡ four_by_four.values }
     ensures kept_planes { codeword (decisions (one_sample LH (pos 26)) 1) ≡ 0x01 ∷ 0x7F ∷ [] }
     ensures kept_read { block_read (record { kind = LH; width = 1; height = 1 }) 5 10 (0x01 ∷ 0x7F ∷ []) ≡ pos 26 ∷ [] }
-{
-}
+{}

@@ -13,14 +13,12 @@ pub fn header_values()
     ensures thirty_seven_passes { pass_bits 37 ≡ replicate 9 true ++ replicate 7 false }
     ensures eight_ones { packed (replicate 8 true) ≡ 0xFF ∷ 0x00 ∷ [] }
     ensures nine_ones { packed (replicate 9 true) ≡ 0xFF ∷ 0x40 ∷ [] }
-{
-}
+{}
 
 /// The bytes of a header never end with FF.
 pub fn header_laws()
     ensures { (bits : List Bool) → ends_with_ff (packed bits) ≡ false }
-{
-}
+{}
 
 /// Two leaves, of which the first has value 0 and the second isn't below 1.
 pub fn tag_tree_values()
@@ -28,8 +26,7 @@ pub fn tag_tree_values()
     ensures wanted { wants 1 (blank_tree 2 1) 0 ≡ true }
     ensures first { leaf_value (pushed false 1 (pushed true 1 (pushed true 1 (blank_tree 2 1) 0) 0) 1) 0 ≡ Some 0 }
     ensures second { leaf_value (pushed false 1 (pushed true 1 (pushed true 1 (blank_tree 2 1) 0) 0) 1) 1 ≡ None }
-{
-}
+{}
 
 /// A packet with one block in each of three sub-bands, of which one is included.
 pub fn packet_values()
@@ -38,5 +35,4 @@ pub fn packet_values()
     ensures cut_short { packet_read (0xC0 ∷ 0x04 ∷ []) 0 three_shapes ≡ Err (Truncated 2) }
     ensures nothing { packet no_bands ≡ 0x00 ∷ [] }
     ensures nothing_read { packet_read (0x00 ∷ []) 0 three_shapes ≡ Ok (record { bands = no_bands; next = 1 }) }
-{
-}
+{}

@@ -1,10 +1,10 @@
 -- Each coefficient belongs to exactly one code-block, and each code-block to exactly one precinct.
-use Rattle.std.proofs.Common.{◌≡◌, ℕ, ◌+◌, ◌-◌, ◌*◌, ◌/◌, ◌%◌, ◌^◌, ◌<◌, ◌≤◌, refl, arith, true, false}
+use Rattle.std.proofs.Common.{ℕ, ◌*◌, ◌/◌, ◌^◌, ◌<◌, ◌≤◌, arith, true, false}
 use Rattle.std.specs.Int.{div_ceil}
 use Rattle.std.specs.List.{AllByRecursion}
 use Rattle.mast_world.specs.declared.picture.Shape.{Shape}
 use Rattle.mast_world.specs.Bands.{band_side, component_bands, resolution_bands}
-use Rattle.mast_world.specs.Precincts.{group_length, IsInGroup, OneGroup, HasPrecincts}
+use Rattle.mast_world.specs.Precincts.{OneGroup, HasPrecincts}
 
 pub one_block : (n x : ℕ) → x < n → OneGroup n 32 x
 one_block n x inside = record { group = x / 32; counted = omega arith; holds = omega arith; alone = λ g h. omega arith }
@@ -47,21 +47,52 @@ reach_least n = omega arith
 
 pub has_precincts : (shape : Shape) (component : ℕ) → AllByRecursion (HasPrecincts shape) (component_bands component)
 unfolding component_bands resolution_bands
-has_precincts shape component =
-    (record { in_columns = reach_least shape.width; in_rows = reach_least shape.height },
-    (record { in_columns = reach5_true shape.width; in_rows = reach5_false shape.height },
-    (record { in_columns = reach5_false shape.width; in_rows = reach5_true shape.height },
-    (record { in_columns = reach5_true shape.width; in_rows = reach5_true shape.height },
-    (record { in_columns = reach4_true shape.width; in_rows = reach4_false shape.height },
-    (record { in_columns = reach4_false shape.width; in_rows = reach4_true shape.height },
-    (record { in_columns = reach4_true shape.width; in_rows = reach4_true shape.height },
-    (record { in_columns = reach3_true shape.width; in_rows = reach3_false shape.height },
-    (record { in_columns = reach3_false shape.width; in_rows = reach3_true shape.height },
-    (record { in_columns = reach3_true shape.width; in_rows = reach3_true shape.height },
-    (record { in_columns = reach2_true shape.width; in_rows = reach2_false shape.height },
-    (record { in_columns = reach2_false shape.width; in_rows = reach2_true shape.height },
-    (record { in_columns = reach2_true shape.width; in_rows = reach2_true shape.height },
-    (record { in_columns = reach1_true shape.width; in_rows = reach1_false shape.height },
-    (record { in_columns = reach1_false shape.width; in_rows = reach1_true shape.height },
-    (record { in_columns = reach1_true shape.width; in_rows = reach1_true shape.height },
-    tt))))))))))))))))
+has_precincts shape component = (
+  record { in_columns = reach_least shape.width; in_rows = reach_least shape.height },
+  (
+    record { in_columns = reach5_true shape.width; in_rows = reach5_false shape.height },
+    (
+      record { in_columns = reach5_false shape.width; in_rows = reach5_true shape.height },
+      (
+        record { in_columns = reach5_true shape.width; in_rows = reach5_true shape.height },
+        (
+          record { in_columns = reach4_true shape.width; in_rows = reach4_false shape.height },
+          (
+            record { in_columns = reach4_false shape.width; in_rows = reach4_true shape.height },
+            (
+              record { in_columns = reach4_true shape.width; in_rows = reach4_true shape.height },
+              (
+                record { in_columns = reach3_true shape.width; in_rows = reach3_false shape.height },
+                (
+                  record { in_columns = reach3_false shape.width; in_rows = reach3_true shape.height },
+                  (
+                    record { in_columns = reach3_true shape.width; in_rows = reach3_true shape.height },
+                    (
+                      record { in_columns = reach2_true shape.width; in_rows = reach2_false shape.height },
+                      (
+                        record { in_columns = reach2_false shape.width; in_rows = reach2_true shape.height },
+                        (
+                          record { in_columns = reach2_true shape.width; in_rows = reach2_true shape.height },
+                          (
+                            record { in_columns = reach1_true shape.width; in_rows = reach1_false shape.height },
+                            (
+                              record { in_columns = reach1_false shape.width; in_rows = reach1_true shape.height },
+                              (
+                                record { in_columns = reach1_true shape.width; in_rows = reach1_true shape.height },
+                                tt,
+                              ),
+                            ),
+                          ),
+                        ),
+                      ),
+                    ),
+                  ),
+                ),
+              ),
+            ),
+          ),
+        ),
+      ),
+    ),
+  ),
+)

@@ -1,5 +1,5 @@
 -- A picture's coefficients are those of its sub-bands in turn, and cut 0 keeps them all.
-use Rattle.std.proofs.Common.{◌≡◌, ℕ, ◌+◌, ◌*◌, refl, sym, ap, ap₂, subst, arith, ◌∙◌, zero, suc, List, [], ◌∷◌, ◌++◌, length, take, drop, map, append_assoc, length-append}
+use Rattle.std.proofs.Common.{◌≡◌, ℕ, ◌+◌, ◌*◌, refl, sym, ap, ap₂, subst, arith, ◌∙◌, suc, List, [], ◌∷◌, ◌++◌, length, take, drop, map, append_assoc, length-append}
 use Rattle.std.specs.Prelude.{ℤ, sum_by}
 use Rattle.std.specs.List.{flat_map}
 use Rattle.std.proofs.lemmas.List.{drop-drop}
@@ -24,17 +24,17 @@ all_at_places = (refl, (refl, (refl, (refl, (refl, (refl, (refl, (refl, (refl, (
 
 -- the values of those that are left, behind those of the ones that are done
 values_from : (shape : Shape) (q : List ℤ) (done rest : List Band) → done ++ rest ≡ all_bands → AreAtPlaces (length done) rest
-  → flat_map (band_values shape q) rest ≡ take (sum_by (band_length shape) rest) (drop (sum_by (band_length shape) done) q)
+    → flat_map (band_values shape q) rest ≡ take (sum_by (band_length shape) rest) (drop (sum_by (band_length shape) done) q)
 unfolding AreAtPlaces band_values
 values_from shape q done [] e places = refl
 values_from shape q done (band ∷ bands) e places =
     let here : band_start shape band ≡ sum_by (band_length shape) done =
-      ap (λ (n : ℕ). sum_by (band_length shape) (take n all_bands)) places.0
-      ∙ (ap (λ (bs : List Band). sum_by (band_length shape) (take (length done) bs)) (sym e) ∙ ap (sum_by (band_length shape)) (take-append_seam done (band ∷ bands))) in
+    ap (λ (n : ℕ). sum_by (band_length shape) (take n all_bands)) places.0
+    ∙ (ap (λ (bs : List Band). sum_by (band_length shape) (take (length done) bs)) (sym e) ∙ ap (sum_by (band_length shape)) (take-append_seam done (band ∷ bands))) in
     let longer : suc (length done) ≡ length (done ++ band ∷ []) = rw (length-append done (band ∷ [])) (omega arith) in
     let sums : sum_by (band_length shape) (done ++ band ∷ []) ≡ sum_by (band_length shape) done + band_length shape band =
-      let alone : sum_by (band_length shape) (band ∷ []) ≡ band_length shape band = omega arith in
-      sum_by-append (band_length shape) done (band ∷ []) ∙ ap (λ (n : ℕ). sum_by (band_length shape) done + n) alone in
+    let alone : sum_by (band_length shape) (band ∷ []) ≡ band_length shape band = omega arith in
+    sum_by-append (band_length shape) done (band ∷ []) ∙ ap (λ (n : ℕ). sum_by (band_length shape) done + n) alone in
     let next = values_from shape q (done ++ band ∷ []) bands (rw append_assoc e) (subst (λ (n : ℕ). AreAtPlaces n bands) longer places.1) in
     rw (here, next, sums, sum_by-cons (band_length shape) band bands, take-add (band_length shape band) (sum_by (band_length shape) bands) (drop (sum_by (band_length shape) done) q), drop-drop (band_length shape band) (sum_by (band_length shape) done) q) refl
 

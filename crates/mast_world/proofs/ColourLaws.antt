@@ -1,6 +1,6 @@
 -- The fifth root and the code value are the greatest numbers that they are said to be.
-use Rattle.std.proofs.Common.{◌≡◌, ◌≢◌, ℕ, ◌+◌, ◌-◌, ◌*◌, ◌/◌, ◌^◌, ◌<◌, ◌≤◌, refl, sym, subst, ap, arith, zero, suc, Bool, true, false, ◌∙◌}
-use Rattle.std.specs.Prelude.{IsTrue, nat_le, if◌then◌else◌}
+use Rattle.std.proofs.Common.{◌≡◌, ℕ, ◌+◌, ◌-◌, ◌*◌, ◌/◌, ◌^◌, ◌<◌, ◌≤◌, refl, sym, arith, zero, suc, Bool, true, false, ◌∙◌}
+use Rattle.std.specs.Prelude.{IsTrue, if◌then◌else◌}
 use Rattle.std.proofs.lemmas.Bool.{leb-true, le-leb}
 use Rattle.std.proofs.Math.Nat.{pow-succ', pow-le-pow_left, div-mul-le_self}
 use Rattle.std.proofs.lemmas.Nat.{le-div, pow_pos}
@@ -13,23 +13,24 @@ IsDownward test = (m n : ℕ) → m ≤ n → IsTrue (test n) → IsTrue (test m
 -- a bound can be raised over numbers at which the test fails
 raised : (test : ℕ → Bool) (low bound r : ℕ) → IsDownward test → test low ≡ false → IsGreatest test low r → low ≤ bound → IsGreatest test bound r
 raised test low bound r down fails is over = record {
-    holds = is.holds;
-    below = omega (arith, is.below);
-    greatest = λ n inside holds. is.greatest n (below_low n holds) holds
-  }
+  holds = is.holds;
+  below = omega (arith, is.below);
+  greatest = λ n inside holds. is.greatest n (below_low n holds) holds;
+}
   where
     contradiction : test low ≡ true → ⊥
     contradiction holds = false_true (sym fails ∙ holds)
       where
         false_true : false ≡ true → ⊥
         false_true e = cc
+
     below_low : (n : ℕ) → IsTrue (test n) → n < low
     below_low n holds = grind (arith, λ (h : low ≤ n). contradiction (down low n h holds))
 
 greatest_from-at : (test : ℕ → Bool) (k a : ℕ) (t : Bool) → IsDownward test → test (a + 2 ^ k) ≡ t
-  → (IsTrue (test (a + 2 ^ k)) → IsGreatest test (a + 2 ^ k + 2 ^ k) (greatest_from test k (a + 2 ^ k)))
-  → IsGreatest test (a + 2 ^ k) (greatest_from test k a)
-  → IsGreatest test (a + 2 ^ k + 2 ^ k) (greatest_from test k (if t then a + 2 ^ k else a))
+    → (IsTrue (test (a + 2 ^ k)) → IsGreatest test (a + 2 ^ k + 2 ^ k) (greatest_from test k (a + 2 ^ k)))
+    → IsGreatest test (a + 2 ^ k) (greatest_from test k a)
+    → IsGreatest test (a + 2 ^ k + 2 ^ k) (greatest_from test k (if t then a + 2 ^ k else a))
 greatest_from-at test k a true down e above below = above e
 greatest_from-at test k a false down e above below = raised test (a + 2 ^ k) (a + 2 ^ k + 2 ^ k) _ down e below (omega arith)
 
@@ -61,8 +62,8 @@ fifths-mono : (p g h : ℕ) → g ≤ h → fifths p g ≤ fifths p h
 fifths-mono p g h less =
     quotient_at (2 ^ 24) (pow_pos 24)
     (product_within _ _ _ _
-      (quotient_at (2 ^ 24) (pow_pos 24) (product_within g h g h less less))
-      (fifth_root-mono _ _ (product_within _ _ _ _ (pow-le-pow_left less (p - 10)) (omega arith))))
+    (quotient_at (2 ^ 24) (pow_pos 24) (product_within g h g h less less))
+    (fifth_root-mono _ _ (product_within _ _ _ _ (pow-le-pow_left less (p - 10)) (omega arith))))
   where
     quotient_at : {a b : ℕ} (m : ℕ) → 0 < m → a ≤ b → a / m ≤ b / m
     quotient_at {a} {b} m positive k = le-div (a / m) b m positive (let down = div-mul-le_self a m in omega arith)

@@ -1,11 +1,10 @@
 -- The cut is the least that is within the limits.
 use Rattle.std.proofs.Common.{◌≡◌, ◌≢◌, ℕ, ◌+◌, ◌<◌, ◌≤◌, refl, sym, ap, cond, Some, arith, zero, suc, Bool, true, false, ◌∙◌, List}
-use Rattle.std.specs.Prelude.{IsTrue, nat_le, ◌&&◌, find, unwrap_or, ℤ, length}
+use Rattle.std.specs.Prelude.{IsTrue, ◌&&◌, find, unwrap_or, ℤ}
 use Rattle.std.specs.List.{range_with_len}
 use Rattle.std.proofs.lemmas.Bool.{leb-true, le-leb}
 use Rattle.mast_world.specs.declared.picture.Shape.{Shape}
 use Rattle.mast_world.specs.declared.picture.Limits.{Limits}
-use Rattle.mast_world.specs.Codestream.{stream, part_length}
 use Rattle.mast_world.specs.Cut.{IsWithin, is_within, IsLeastCut, least_cut}
 
 -- r is the first number from a on at which the test holds
@@ -24,14 +23,14 @@ and-true true b h = (refl, h)
 and-true false b h = absurd (none false refl h)
 
 first_at : (test : ℕ → Bool) (n a d : ℕ) (t : Bool) → test a ≡ t
-  → (test a ≡ false → IsFirst test (a + 1) (unwrap_or (find test (range_with_len (a + 1) n)) d))
-  → IsFirst test a (unwrap_or (cond t (Some a) (find test (range_with_len (a + 1) n))) d)
+    → (test a ≡ false → IsFirst test (a + 1) (unwrap_or (find test (range_with_len (a + 1) n)) d))
+    → IsFirst test a (unwrap_or (cond t (Some a) (find test (range_with_len (a + 1) n))) d)
 first_at test n a d true e later = record { holds = e; first = λ m low below h. absurd (omega arith) }
 first_at test n a d false e later =
     let rest = later e in
     record {
       holds = rest.holds;
-      first = λ m low below h. let other : m ≢ a = λ q. none (test a) e (ap test (sym q) ∙ h) in rest.first m (omega arith) below h
+      first = λ m low below h. let other : m ≢ a = λ q. none (test a) e (ap test (sym q) ∙ h) in rest.first m (omega arith) below h;
     }
 
 first_found : (test : ℕ → Bool) (n a c d : ℕ) → a ≤ c → c < a + n → IsTrue (test c) → IsFirst test a (unwrap_or (find test (range_with_len a n)) d)
@@ -57,5 +56,5 @@ least_cut-is limits shape q cut small within =
     let found = first_found (is_within limits shape q) 721 0 cut 720 (omega arith) (omega arith) (test_of_within limits shape q cut within) in
     record {
       within = within_of_test limits shape q _ found.holds;
-      least = λ lower below w. found.first lower (omega arith) below (test_of_within limits shape q lower w)
+      least = λ lower below w. found.first lower (omega arith) below (test_of_within limits shape q lower w);
     }

@@ -1,11 +1,11 @@
 -- What is kept at cut 0 is the value itself.
-use Rattle.std.proofs.Common.{◌≡◌, ℕ, ◌+◌, ◌-◌, ◌*◌, ◌%◌, ◌^◌, refl, ap, arith, ◌∙◌, sym, zero, suc}
+use Rattle.std.proofs.Common.{◌≡◌, ℕ, ◌-◌, ◌%◌, ap, arith, suc}
 use Rattle.std.specs.Int.{from_bool}
 use Rattle.std.proofs.lemmas.Bool.{le-ltb}
-use Rattle.std.specs.Prelude.{nat_lt, ℤ, pos, negsuc, neg_ℤ, unsigned_abs}
+use Rattle.std.specs.Prelude.{nat_lt, ℤ, pos, negsuc, neg_ℤ}
 use Rattle.mast_world.specs.declared.picture.Band.{Band}
 use Rattle.mast_world.specs.Bands.{rank, lowest_plane}
-use Rattle.mast_world.specs.Quantiser.{with_sign_of, kept}
+use Rattle.mast_world.specs.Quantiser.{kept}
 
 whole : (n : ℕ) → n - n % 1 ≡ n
 whole n = omega arith

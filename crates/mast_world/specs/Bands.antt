@@ -5,7 +5,7 @@
 --     rank band                                        its place, from 0 to 47, in the order in which cuts take a bit-plane away
 --     lowest_plane cut band                            the lowest bit-plane that is kept
 --     component_bands j, all_bands                     the sub-bands in the order in which coefficients are listed
-use Rattle.std.specs.Prelude.{ℕ, zero, suc, ◌+◌, ◌-◌, ◌*◌, ◌/◌, ◌^◌, ◌%◌, Bool, true, false, if◌then◌else◌, nat_lt, List, [], ◌∷◌, ◌++◌, take, drop, sum_by, ℤ}
+use Rattle.std.specs.Prelude.{ℕ, zero, suc, ◌+◌, ◌-◌, ◌*◌, ◌/◌, ◌^◌, ◌%◌, Bool, true, false, nat_lt, List, [], ◌∷◌, take, drop, sum_by, ℤ}
 use Rattle.std.specs.Int.{div_ceil, from_bool}
 use Rattle.std.specs.List.{flat_map}
 use Rattle.mast_world.specs.declared.picture.Shape.{Shape}

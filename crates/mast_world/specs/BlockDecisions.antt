@@ -3,13 +3,13 @@
 --     plane_decisions block p    those of bit-plane p
 --     decisions block p          those of the bit-planes from the highest down to p
 -- Each decision is a function of the values and of the set of samples that are significant before it.
-use Rattle.std.specs.Prelude.{ℕ, zero, suc, ◌+◌, ◌-◌, ◌*◌, ◌/◌, ◌^◌, ◌%◌, ◌==◌, max, Bool, true, false, not, ◌&&◌, ◌||◌, if◌then◌else◌, nat_le, List, [], ◌∷◌, ◌++◌, map, length, drop, replicate, slice_index, slice_index_or, ℤ, pos, unsigned_abs, Option, Some, None, fold, position}
+use Rattle.std.specs.Prelude.{ℕ, zero, suc, ◌+◌, ◌-◌, ◌*◌, ◌/◌, ◌^◌, ◌%◌, ◌==◌, max, Bool, true, false, not, ◌&&◌, if◌then◌else◌, nat_le, List, [], ◌∷◌, ◌++◌, map, length, drop, replicate, slice_index, slice_index_or, ℤ, pos, unsigned_abs, Option, Some, None, fold, position}
 use Rattle.std.specs.Int.{is_negative}
 use Rattle.std.specs.List.{flat_map, list_all}
 use Rattle.mast_world.specs.declared.picture.BandKind.{BandKind}
 use Rattle.mast_world.specs.Bits.{bit_length}
 use Rattle.mast_world.specs.Mq.{Decision}
-use Rattle.mast_world.specs.Contexts.{contains, with_sample, zero_context_at, SignContext, sign_context_at, flipped_if, refine_context_at, Column, scan}
+use Rattle.mast_world.specs.Contexts.{contains, with_sample, zero_context_at, sign_context_at, flipped_if, refine_context_at, Column, scan}
 
 -- values in raster order, one for each sample
 pub record Block : Type 0 where

@@ -1,11 +1,11 @@
 -- The values of a code-block from its codeword: ITU-T T.800 Annex D, in the decoder's direction.
 --     block_read kind width height planes passes codeword     the values that so many passes give, where the first has the highest of so many planes
-use Rattle.std.specs.Prelude.{ℕ, zero, suc, ◌+◌, ◌-◌, ◌*◌, ◌/◌, ◌^◌, ◌%◌, ◌==◌, Bool, true, false, not, ◌&&◌, ◌||◌, if◌then◌else◌, List, [], ◌∷◌, map, length, drop, slice_index, slice_index_or, slice_set, replicate, ℤ, pos, neg_ℤ, fold, zip}
+use Rattle.std.specs.Prelude.{ℕ, zero, suc, ◌+◌, ◌-◌, ◌*◌, ◌/◌, ◌^◌, ◌%◌, ◌==◌, Bool, false, not, ◌&&◌, if◌then◌else◌, List, map, length, drop, slice_index, slice_set, replicate, ℤ, pos, neg_ℤ, fold, zip}
 use Rattle.std.specs.Int.{from_bool}
 use Rattle.std.specs.List.{list_all, range_with_len}
 use Rattle.mast_world.specs.declared.picture.BandKind.{BandKind}
 use Rattle.mast_world.specs.Mq.{Decoder, decoder_of, decoded_bit, decoder_after}
-use Rattle.mast_world.specs.Contexts.{contains, with_sample, zero_context_at, SignContext, sign_context_at, flipped_if, refine_context_at, Column, scan}
+use Rattle.mast_world.specs.Contexts.{contains, with_sample, zero_context_at, sign_context_at, flipped_if, refine_context_at, Column, scan}
 
 pub record Area : Type 0 where
   pub kind : BandKind
@@ -47,7 +47,7 @@ sign_read a p x y k =
     let code = sign_context_at a.width k.significant k.negative x y in
     record (with_magnitude a x y (2 ^ p) (behind_bit code.context k)) {
       negative = slice_set k.negative (y * a.width + x) (flipped_if code.flips (next_bit code.context k));
-      significant = with_sample a.width k.significant x y
+      significant = with_sample a.width k.significant x y;
     }
 
 abbrev pub zero_bit_read : Area → ℕ → ℕ → ℕ → Known → Known
@@ -134,12 +134,12 @@ numbered_pass a planes k i = pass_read a (planes - 1 - (i + 2) / 3) (i % 3) k
 
 abbrev pub nothing_known : Area → List ℕ → Known
 nothing_known a codeword = record {
-    decoder = decoder_of codeword;
-    magnitudes = replicate (a.width * a.height) 0;
-    negative = replicate (a.width * a.height) false;
-    significant = replicate (a.width * a.height) false;
-    visited = replicate (a.width * a.height) false
-  }
+  decoder = decoder_of codeword;
+  magnitudes = replicate (a.width * a.height) 0;
+  negative = replicate (a.width * a.height) false;
+  significant = replicate (a.width * a.height) false;
+  visited = replicate (a.width * a.height) false;
+}
 
 unfoldable pub passes_read : Area → ℕ → ℕ → List ℕ → Known
 passes_read a planes passes codeword = fold (numbered_pass a planes) (nothing_known a codeword) (range_with_len 0 passes)

@@ -3,11 +3,10 @@
 --     main_header shape parts cut     the main header, for these lengths of the tile-parts
 --     tile_part shape q cut component the tile-part of a component
 --     stream shape q cut              the whole codestream of quantised coefficients q
-use Rattle.std.specs.Prelude.{ℕ, zero, suc, ◌+◌, ◌-◌, ◌*◌, ◌/◌, ◌^◌, ◌%◌, Bool, true, false, if◌then◌else◌, nat_le, List, [], ◌∷◌, ◌++◌, map, length, ℤ}
+use Rattle.std.specs.Prelude.{ℕ, ◌+◌, ◌-◌, ◌*◌, true, false, if◌then◌else◌, nat_le, List, [], ◌∷◌, ◌++◌, map, length, ℤ}
 use Rattle.std.specs.List.{flat_map, range_with_len}
 use Rattle.mast_world.specs.declared.picture.Shape.{Shape}
 use Rattle.mast_world.specs.declared.picture.Band.{Band}
-use Rattle.mast_world.specs.declared.picture.BandKind.TheVariants.{LL, HL, LH, HH}
 use Rattle.mast_world.specs.declared.packet.PacketBlock.{PacketBlock}
 use Rattle.mast_world.specs.declared.packet.PacketBand.{PacketBand}
 use Rattle.mast_world.specs.Bits.{two_bytes, four_bytes}

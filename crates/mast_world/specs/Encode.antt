@@ -2,7 +2,7 @@
 --     coefficients width height power raw    the quantised coefficients
 --     task_cut task, encoding task           the cut and the codestream of a task
 --     kept_coefficients shape cut q          what of coefficients q is kept at a cut
-use Rattle.std.specs.Prelude.{ℕ, zero, suc, ◌-◌, ◌^◌, Bool, true, false, if◌then◌else◌, List, [], ◌∷◌, map, slice_index_or, ℤ}
+use Rattle.std.specs.Prelude.{ℕ, ◌^◌, Bool, if◌then◌else◌, List, [], ◌∷◌, map, slice_index_or, ℤ}
 use Rattle.std.specs.Int.{div_ceil}
 use Rattle.std.specs.List.{flat_map}
 use Rattle.mast_world.specs.declared.picture.Shape.{Shape}

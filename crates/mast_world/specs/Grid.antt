@@ -1,5 +1,5 @@
 -- Grids: lists of rows, of which each has as many items.
-use Rattle.std.specs.Prelude.{ℕ, zero, suc, ◌*◌, List, [], ◌∷◌, ◌++◌, map, length, slice_index_or, slice_set, take, drop}
+use Rattle.std.specs.Prelude.{ℕ, zero, suc, List, [], ◌∷◌, ◌++◌, map, length, slice_index_or, slice_set, take, drop}
 use Rattle.std.specs.List.{flat_map}
 
 -- the rows of items in raster order, and the items of rows

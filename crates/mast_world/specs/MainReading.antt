@@ -1,6 +1,6 @@
 -- The main header in the reader's direction: ITU-T T.800 Annex A, for this profile.
 --     main_read bytes     what the main header says, or the first refusal by place
-use Rattle.std.specs.Prelude.{ℕ, zero, suc, ◌+◌, ◌-◌, ◌*◌, ◌/◌, ◌^◌, ◌%◌, ◌==◌, Bool, true, false, not, ◌&&◌, ◌||◌, if◌then◌else◌, nat_lt, nat_le, List, [], ◌∷◌, ◌++◌, map, length, slice_index, slice_range, replicate, Option, Some, None, Result, Ok, Err, is_some, fold}
+use Rattle.std.specs.Prelude.{ℕ, zero, suc, ◌+◌, ◌-◌, ◌*◌, ◌/◌, ◌%◌, ◌==◌, Bool, true, false, not, ◌&&◌, ◌||◌, if◌then◌else◌, nat_lt, nat_le, List, [], ◌∷◌, map, length, slice_index, slice_range, replicate, Option, Some, None, Result, Ok, Err, is_some, fold}
 use Rattle.std.specs.List.{range_with_len}
 use Rattle.mast_world.specs.declared.picture.Shape.{Shape}
 use Rattle.mast_world.specs.declared.reading.MainHead.{MainHead}

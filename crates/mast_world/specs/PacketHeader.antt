@@ -2,7 +2,7 @@
 --     pass_bits n          the codeword of a number of passes (table B.4)
 --     packed bits          the bytes of a header's bits, with a zero bit behind each FF
 --     packet bands         a packet's bytes
-use Rattle.std.specs.Prelude.{ℕ, zero, suc, ◌+◌, ◌-◌, ◌*◌, ◌/◌, ◌^◌, ◌%◌, ◌==◌, Bool, true, false, if◌then◌else◌, nat_lt, nat_le, List, [], ◌∷◌, ◌++◌, map, length, replicate}
+use Rattle.std.specs.Prelude.{ℕ, zero, suc, ◌+◌, ◌-◌, ◌*◌, ◌^◌, ◌==◌, Bool, true, false, if◌then◌else◌, nat_le, List, [], ◌∷◌, ◌++◌, map, length, replicate}
 use Rattle.std.specs.Int.{from_bool}
 use Rattle.std.specs.List.{flat_map, list_any}
 use Rattle.mast_world.specs.declared.packet.PacketBlock.{PacketBlock}

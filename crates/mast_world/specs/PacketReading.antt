@@ -1,7 +1,7 @@
 -- Packets in the reader's direction: ITU-T T.800 Annex B.9 and B.10, with one layer.
 --     packet_read bytes at shapes     the packet that begins at this place, or the first refusal by place
 -- A refusal of what a bit said stands at the byte that had the bit.
-use Rattle.std.specs.Prelude.{ℕ, zero, suc, ◌+◌, ◌-◌, ◌*◌, ◌/◌, ◌^◌, ◌%◌, ◌==◌, Bool, true, false, ◌&&◌, if◌then◌else◌, nat_lt, nat_le, List, [], ◌∷◌, ◌++◌, map, length, take, drop, slice_index, slice_range, replicate, Option, Some, None, Result, Ok, Err}
+use Rattle.std.specs.Prelude.{ℕ, zero, suc, ◌+◌, ◌-◌, ◌*◌, ◌/◌, ◌^◌, ◌%◌, ◌==◌, Bool, true, false, ◌&&◌, if◌then◌else◌, nat_lt, nat_le, List, [], ◌∷◌, map, length, slice_index, slice_range, replicate, Option, Some, None, Result, Ok, Err}
 use Rattle.std.specs.Int.{from_bool}
 use Rattle.std.specs.List.{range_with_len}
 use Rattle.mast_world.specs.declared.packet.PacketBlock.{PacketBlock}
@@ -12,7 +12,7 @@ use Rattle.mast_world.specs.declared.packet.HeadRefusal.{HeadRefusal}
 use Rattle.mast_world.specs.declared.packet.HeadRefusal.TheVariants.{Truncated, BadStuffing, TooManyPasses, LengthPast, WideLength}
 use Rattle.mast_world.specs.Bits.{log2}
 use Rattle.mast_world.specs.TagTree.{FoundTree, blank_tree, wants, pushed, leaf_value}
-use Rattle.mast_world.specs.Reading.{Steps, done, refused, on_ok, ◌>>=◌}
+use Rattle.mast_world.specs.Reading.{Steps, done, on_ok, ◌>>=◌}
 
 -- the place behind the byte in hand, that byte, and how many of its bits are still to come
 pub record BitPlace : Type 0 where
@@ -74,9 +74,10 @@ module _ (bytes : List ℕ) where
   leaf_read_within zero t at tree = done tree
   leaf_read_within (suc n) t at tree = elim (wants t tree at) [
     | true ↦ do
-        bit ← bit_read
-        leaf_read_within n t at (pushed bit t tree at)
-    | false ↦ done tree ]
+      bit ← bit_read
+      leaf_read_within n t at (pushed bit t tree at)
+    | false ↦ done tree
+  ]
 
   abbrev pub leaf_read : ℕ → ℕ → FoundTree → Bits FoundTree
   leaf_read t at tree = leaf_read_within (t * length tree.levels) t at tree
@@ -145,13 +146,14 @@ module _ (bytes : List ℕ) where
     layers_then ← leaf_read 1 at layers
     elim (is_in_layer (leaf_value layers_then at)) [
       | true ↦ do
-          planes_then ← leaf_read mb at planes
-          head ← included_read mb at planes_then
-          heads ← blocks_read mb layers_then planes_then blocks
-          done (head ∷ heads)
+        planes_then ← leaf_read mb at planes
+        head ← included_read mb at planes_then
+        heads ← blocks_read mb layers_then planes_then blocks
+        done (head ∷ heads)
       | false ↦ do
-          heads ← blocks_read mb layers_then planes blocks
-          done (no_head ∷ heads) ]
+        heads ← blocks_read mb layers_then planes blocks
+        done (no_head ∷ heads)
+    ]
 
   abbrev pub band_read : BandShape → Bits (List BlockHead)
   band_read s = blocks_read s.mb (blank_tree s.columns s.rows) (blank_tree s.columns s.rows) (range_with_len 0 (s.columns * s.rows))

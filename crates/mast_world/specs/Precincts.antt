@@ -3,13 +3,13 @@
 --     precinct_columns shape r        how many precincts resolution r has in a row; likewise rows
 --     blocks_in shape band precinct   the code-blocks of a precinct in a sub-band
 --     packet_order shape              the packets of a component in their order
-use Rattle.std.specs.Prelude.{◌≡◌, ◌<◌, ◌≤◌, ℕ, zero, suc, ◌+◌, ◌-◌, ◌*◌, ◌/◌, ◌^◌, ◌%◌, ◌==◌, Bool, true, false, not, ◌&&◌, ◌||◌, if◌then◌else◌, nat_lt, min, List, [], ◌∷◌, ◌++◌, map}
+use Rattle.std.specs.Prelude.{◌≡◌, ◌<◌, ◌≤◌, ℕ, zero, suc, ◌+◌, ◌-◌, ◌*◌, ◌/◌, ◌^◌, ◌%◌, ◌==◌, Bool, ◌&&◌, ◌||◌, if◌then◌else◌, nat_lt, min, List, [], ◌∷◌, map}
 use Rattle.std.specs.Int.{div_ceil}
 use Rattle.std.specs.List.{flat_map, range_with_len}
 use Rattle.mast_world.specs.declared.picture.Shape.{Shape}
 use Rattle.mast_world.specs.declared.picture.Band.{Band}
 use Rattle.mast_world.specs.declared.picture.BandKind.{BandKind}
-use Rattle.mast_world.specs.declared.picture.BandKind.TheVariants.{LL, HL, LH, HH}
+use Rattle.mast_world.specs.declared.picture.BandKind.TheVariants.{LL}
 use Rattle.mast_world.specs.Bands.{band_columns, band_rows}
 
 -- ---- precincts (equations B-14 and B-16)

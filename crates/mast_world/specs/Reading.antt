@@ -1,5 +1,5 @@
 -- Steps that read and may be refused: each goes on from a place, and gives a value and the next place, or a refusal.
-use Rattle.std.specs.Prelude.{List, [], ◌∷◌, Result, Ok, Err}
+use Rattle.std.specs.Prelude.{Result, Ok, Err}
 
 abbrev pub Steps : Type 0 → Type 0 → Type 0 → Type 0
 Steps P E A = P → Result (A × P) E

@@ -1,7 +1,7 @@
 -- Decoding a codestream to its quantised coefficients: ITU-T T.800 in this profile.
 --     stream_read bytes     the coefficients, or the first refusal by place; at one place one of markers comes first, then one of packets, then one of parts
 -- Bit-planes that weren't coded are zero.
-use Rattle.std.specs.Prelude.{ℕ, zero, suc, ◌+◌, ◌-◌, ◌*◌, ◌/◌, ◌^◌, ◌%◌, ◌==◌, Bool, true, false, ◌&&◌, if◌then◌else◌, nat_lt, nat_le, List, [], ◌∷◌, ◌++◌, map, length, slice_index, slice_index_or, ℤ, pos, Option, Some, None, Result, Ok, Err, find, zip, sum_by, count_by, option_and_then}
+use Rattle.std.specs.Prelude.{ℕ, suc, ◌+◌, ◌-◌, ◌*◌, ◌/◌, ◌%◌, ◌==◌, Bool, true, false, ◌&&◌, if◌then◌else◌, nat_lt, List, [], ◌∷◌, map, length, slice_index, slice_index_or, ℤ, pos, Option, Some, None, Result, Ok, Err, find, zip, sum_by, count_by}
 use Rattle.std.specs.List.{flat_map, range_with_len}
 use Rattle.mast_world.specs.declared.picture.Shape.{Shape}
 use Rattle.mast_world.specs.declared.picture.Band.{Band}
@@ -12,17 +12,15 @@ use Rattle.mast_world.specs.declared.packet.PacketRead.{PacketRead}
 use Rattle.mast_world.specs.declared.packet.HeadRefusal.{HeadRefusal}
 use Rattle.mast_world.specs.declared.reading.MainHead.{MainHead}
 use Rattle.mast_world.specs.declared.reading.MarkerRefusal.{MarkerRefusal}
-use Rattle.mast_world.specs.declared.reading.MarkerRefusal.TheVariants.{Truncated}
 use Rattle.mast_world.specs.declared.reading.ReadRefusal.{ReadRefusal}
 use Rattle.mast_world.specs.declared.reading.ReadRefusal.TheVariants.{Marker, Head, PartLength, After}
 use Rattle.mast_world.specs.declared.reading.Coefficients.{Coefficients}
-use Rattle.mast_world.specs.Grid.{grid_of}
 use Rattle.mast_world.specs.Bands.{band_columns, band_rows, band_place, resolution_bands, all_bands}
-use Rattle.mast_world.specs.Precincts.{BlockArea, group_length, block_columns, block_rows, blocks_in, Precinct, precinct_columns, resolution, packet_order}
+use Rattle.mast_world.specs.Precincts.{group_length, block_columns, block_rows, blocks_in, Precinct, precinct_columns, resolution, packet_order}
 use Rattle.mast_world.specs.BlockReading.{block_read}
 use Rattle.mast_world.specs.Reading.{on_ok}
 use Rattle.mast_world.specs.PacketReading.{packet_read}
-use Rattle.mast_world.specs.MainReading.{fixed, fields_end, marker_at, number_at, main_read}
+use Rattle.mast_world.specs.MainReading.{fixed, fields_end, marker_at, main_read}
 use Rattle.mast_world.specs.Codestream.{not_included}
 
 abbrev pub marker_step : {A : Type 0} → Result A MarkerRefusal → Result A ReadRefusal
@@ -152,12 +150,12 @@ included_count parts = sum_by (λ packets. sum_by (λ bands. sum_by included_in 
 
 abbrev pub coefficients_read : MainHead → List (List (List PacketBand)) → Coefficients
 coefficients_read head parts = record {
-    shape = head.shape;
-    values = flat_map (band_read_values head parts) all_bands;
-    cut = head.cut;
-    parts = head.parts;
-    blocks = included_count parts
-  }
+  shape = head.shape;
+  values = flat_map (band_read_values head parts) all_bands;
+  cut = head.cut;
+  parts = head.parts;
+  blocks = included_count parts;
+}
 
 -- ---- the whole
 

@@ -3,7 +3,7 @@
 --     leaf_bits t tree at              the bits that tell of leaf number at whether its value is below the threshold t, and which it then is
 --     leaf_told t tree at              the tree when these bits were sent
 --     wants t tree at, pushed bit t tree at, leaf_value tree at    what a reader of these bits knows
-use Rattle.std.specs.Prelude.{ℕ, zero, suc, ◌+◌, ◌-◌, ◌*◌, ◌/◌, ◌^◌, ◌%◌, ◌==◌, min, max, Bool, true, false, not, ◌&&◌, ◌||◌, if◌then◌else◌, nat_lt, List, [], ◌∷◌, ◌++◌, map, length, slice_index_or, slice_set, take, drop, replicate, Option, Some, None}
+use Rattle.std.specs.Prelude.{ℕ, zero, suc, ◌+◌, ◌-◌, ◌/◌, ◌^◌, ◌%◌, ◌==◌, min, max, Bool, true, false, not, ◌&&◌, ◌||◌, if◌then◌else◌, nat_lt, List, [], ◌∷◌, ◌++◌, map, length, replicate, Option, Some, None}
 use Rattle.std.specs.Int.{div_ceil}
 use Rattle.mast_world.specs.Grid.{grid_of, grid_item, with_grid_item}
 

@@ -4,7 +4,7 @@
 --     transformed_line line     a line after its five steps, low samples first
 --     level rows                an area after one level: columns, rows, clamp
 --     transformed n rows        an area after n levels, its low-low part in the upper left corner
-use Rattle.std.specs.Prelude.{ℕ, zero, suc, ◌+◌, ◌-◌, ◌*◌, ◌/◌, ◌^◌, ◌%◌, ◌==◌, Bool, true, false, if◌then◌else◌, List, [], ◌∷◌, ◌++◌, map, length, slice_index_or, take, drop, ℤ, pos, negsuc, ◌+ℤ◌, ◌-ℤ◌, ◌*ℤ◌, neg_ℤ}
+use Rattle.std.specs.Prelude.{ℕ, zero, suc, ◌-◌, ◌^◌, ◌%◌, ◌==◌, if◌then◌else◌, List, [], ◌∷◌, ◌++◌, map, length, slice_index_or, ℤ, pos, ◌+ℤ◌, ◌-ℤ◌, ◌*ℤ◌, neg_ℤ}
 use Rattle.std.specs.Int.{int_shr, int_min, int_max, div_ceil}
 use Rattle.std.specs.List.{range_with_len}
 use Rattle.mast_world.specs.Grid.{columns_of, part_of, with_corner}
