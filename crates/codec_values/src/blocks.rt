@@ -21,7 +21,8 @@ pub fn block_values()
     ensures full_planes { plane_count (one_sample HL (pos 32767)) ≡ 15 }
     ensures full_passes { pass_count (plane_count (one_sample HL (pos 32767)) - 0) ≡ 43 }
     ensures run { codeword (decisions four_by_four 0) ≡ 0x11 ∷ 0xE4 ∷ 0xB1 ∷ [] }
-    ensures run_read { block_read (record { kind = LL; width = 4; height = 4 }) 1 1 (0x11 ∷ 0xE4 ∷ 0xB1 ∷ []) ≡ four_by_four.values }
+    ensures run_read { block_read (record { kind = LL; width = 4; height = 4 }) 1 1 (0x11 ∷ 0xE4 ∷ 0xB1 ∷ [])
+        ≡ four_by_four.values }
     ensures kept_planes { codeword (decisions (one_sample LH (pos 26)) 1) ≡ 0x01 ∷ 0x7F ∷ [] }
     ensures kept_read { block_read (record { kind = LH; width = 1; height = 1 }) 5 10 (0x01 ∷ 0x7F ∷ []) ≡ pos 26 ∷ [] }
 {}

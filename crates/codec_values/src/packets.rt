@@ -7,7 +7,8 @@ ghost use Rattle.codec_values.specs.Worked.{three_bands, three_shapes, no_bands}
 
 /// Numbers of passes, and stuffed bytes.
 pub fn header_values()
-    ensures few_passes { map pass_bits (1 ∷ 2 ∷ 5 ∷ []) ≡ (false ∷ []) ∷ (true ∷ false ∷ []) ∷ (true ∷ true ∷ true ∷ false ∷ []) ∷ [] }
+    ensures few_passes { map pass_bits (1 ∷ 2 ∷ 5 ∷ [])
+        ≡ (false ∷ []) ∷ (true ∷ false ∷ []) ∷ (true ∷ true ∷ true ∷ false ∷ []) ∷ [] }
     ensures six_passes { pass_bits 6 ≡ replicate 4 true ++ replicate 5 false }
     ensures thirty_six_passes { pass_bits 36 ≡ replicate 8 true ++ replicate 1 false }
     ensures thirty_seven_passes { pass_bits 37 ≡ replicate 9 true ++ replicate 7 false }
@@ -31,7 +32,8 @@ pub fn tag_tree_values()
 /// A packet with one block in each of three sub-bands, of which one is included.
 pub fn packet_values()
     ensures written { packet three_bands ≡ 0xC0 ∷ 0x04 ∷ 0x20 ∷ 0x03 ∷ [] }
-    ensures read { packet_read (0xC0 ∷ 0x04 ∷ 0x20 ∷ 0x03 ∷ []) 0 three_shapes ≡ Ok (record { bands = three_bands; next = 4 }) }
+    ensures read { packet_read (0xC0 ∷ 0x04 ∷ 0x20 ∷ 0x03 ∷ []) 0 three_shapes
+        ≡ Ok (record { bands = three_bands; next = 4 }) }
     ensures cut_short { packet_read (0xC0 ∷ 0x04 ∷ []) 0 three_shapes ≡ Err (Truncated 2) }
     ensures nothing { packet no_bands ≡ 0x00 ∷ [] }
     ensures nothing_read { packet_read (0x00 ∷ []) 0 three_shapes ≡ Ok (record { bands = no_bands; next = 1 }) }

@@ -14,7 +14,9 @@ pub fn component_values()
 
 /// A line that is the same throughout has low samples of nearly that value, and high ones of nearly 0.
 pub fn lifting_values()
-    ensures flat { transformed_line (replicate 7 (neg_ℤ (pos 16777216))) ≡ neg_ℤ (pos 16776816) ∷ neg_ℤ (pos 16776816) ∷ neg_ℤ (pos 16776816) ∷ neg_ℤ (pos 16776816) ∷ pos 659 ∷ pos 659 ∷ pos 659 ∷ [] }
+    ensures flat { transformed_line (replicate 7 (neg_ℤ (pos 16777216)))
+        ≡ neg_ℤ (pos 16776816) ∷ neg_ℤ (pos 16776816) ∷ neg_ℤ (pos 16776816) ∷ neg_ℤ (pos 16776816)
+        ∷ pos 659 ∷ pos 659 ∷ pos 659 ∷ [] }
     ensures short { transformed_line (replicate 2 (neg_ℤ (pos 16777216))) ≡ neg_ℤ (pos 16776816) ∷ pos 659 ∷ [] }
 {}
 

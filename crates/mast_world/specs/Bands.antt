@@ -2,9 +2,11 @@
 -- The exponents and mantissas, the ranks and what a cut keeps are this project's own.
 --     band_columns shape band, band_rows shape band    the size of a sub-band
 --     exponent band, mantissa band, step band          its quantisation
---     rank band                                        its place, from 0 to 47, in the order in which cuts take a bit-plane away
+--     rank band                                        its place, from 0 to 47, in the order in which cuts
+--         take a bit-plane away
 --     lowest_plane cut band                            the lowest bit-plane that is kept
---     component_bands j, all_bands                     the sub-bands in the order in which coefficients are listed
+--     component_bands j, all_bands                     the sub-bands in the order in which coefficients
+--         are listed
 use Rattle.std.specs.Prelude.{ℕ, zero, suc, ◌+◌, ◌-◌, ◌*◌, ◌/◌, ◌^◌, ◌%◌, Bool, true, false, nat_lt, List, [], ◌∷◌, take, drop, sum_by, ℤ}
 use Rattle.std.specs.Int.{div_ceil, from_bool}
 use Rattle.std.specs.List.{flat_map}
@@ -38,7 +40,8 @@ band_columns shape band = band_side shape.width band.level (is_high_in_rows band
 abbrev pub band_rows : Shape → Band → ℕ
 band_rows shape band = band_side shape.height band.level (is_high_in_columns band.kind)
 
--- ---- quantisation (equation E-3); with one guard bit a band has as many bit-planes as its exponent says (equation E-2)
+-- ---- quantisation (equation E-3); with one guard bit a band has as many bit-planes as its exponent says
+-- (equation E-2)
 
 abbrev pub exponent_at : ℕ → BandKind → ℕ
 exponent_at level LL = 14
@@ -105,7 +108,8 @@ band_of component level kind = record { component = component; level = level; ki
 -- the sub-bands of resolution r, which has those of level 6 - r
 unfoldable pub resolution_bands : ℕ → ℕ → List Band
 resolution_bands component zero = band_of component 5 LL ∷ []
-resolution_bands component (suc r) = band_of component (5 - r) HL ∷ band_of component (5 - r) LH ∷ band_of component (5 - r) HH ∷ []
+resolution_bands component (suc r) =
+    band_of component (5 - r) HL ∷ band_of component (5 - r) LH ∷ band_of component (5 - r) HH ∷ []
 
 unfoldable pub component_bands : ℕ → List Band
 component_bands component = flat_map (resolution_bands component) (0 ∷ 1 ∷ 2 ∷ 3 ∷ 4 ∷ 5 ∷ [])

@@ -30,14 +30,16 @@ plane_bit b p x y = magnitude_at b x y / 2 ^ p % 2 == 1
 abbrev pub negatives : Block → List Bool
 negatives b = map is_negative b.values
 
--- what a pass goes on from: the decisions so far in this plane, the samples that are significant, and those that the propagation pass of this plane coded
+-- what a pass goes on from: the decisions so far in this plane, the samples that are significant, and
+-- those that the propagation pass of this plane coded
 pub record Walk : Type 0 where
   pub decisions : List Decision
   pub significant : List Bool
   pub visited : List Bool
 
 abbrev pub with_decision : ℕ → Bool → Walk → Walk
-with_decision context bit w = record w { decisions = w.decisions ++ record { context = context; bit = bit } ∷ [] }
+with_decision context bit w =
+    record w { decisions = w.decisions ++ record { context = context; bit = bit } ∷ [] }
 
 abbrev pub is_significant : Block → Walk → ℕ → ℕ → Bool
 is_significant b w x y = contains b.width w.significant x y
@@ -52,7 +54,8 @@ zero_context_of b w x y = zero_context_at b.kind b.width w.significant x y
 abbrev pub sign_told : Block → ℕ → ℕ → Walk → Walk
 sign_told b x y w =
     let code = sign_context_at b.width w.significant (negatives b) x y in
-    record (with_decision code.context (flipped_if code.flips (is_negative (value_at b x y))) w) { significant = with_sample b.width w.significant x y }
+    record (with_decision code.context (flipped_if code.flips (is_negative (value_at b x y))) w)
+    { significant = with_sample b.width w.significant x y }
 
 -- its bit in its zero context, and its sign where the bit is 1
 abbrev pub bit_told : Block → ℕ → ℕ → ℕ → Walk → Walk
@@ -81,7 +84,10 @@ abbrev pub is_first : Block → ℕ → ℕ → ℕ → Bool
 is_first b p x y = magnitude_at b x y / 2 ^ suc p == 1
 
 abbrev pub refined : Block → ℕ → ℕ → Walk → ℕ → Walk
-refined b p x w y = if is_refined b w x y then with_decision (refine_context_at b.width w.significant (is_first b p x y) x y) (plane_bit b p x y) w else w
+refined b p x w y =
+    if is_refined b w x y
+    then with_decision (refine_context_at b.width w.significant (is_first b p x y) x y) (plane_bit b p x y) w
+    else w
 
 -- ---- cleanup (Annex D.3.4)
 
@@ -98,19 +104,22 @@ may_run b w x y = is_left b w x y && (zero_context_of b w x y == 0)
 abbrev pub is_run : Block → Walk → Column → Bool
 is_run b w column = (length column.rows == 4) && list_all (may_run b w column.x) column.rows
 
--- the bit in context 17 says whether any of the four becomes significant; two bits in context 18 say which is the first
+-- the bit in context 17 says whether any of the four becomes significant; two bits in context 18 say which
+-- is the first
 abbrev pub run_end : Block → ℕ → Column → Walk → Option ℕ → Walk
 run_end b p column w None = with_decision 17 false w
 run_end b p column w (Some r) =
     fold (cleaned b p column.x)
-    (sign_told b column.x (slice_index column.rows r) (with_decision 18 (r % 2 == 1) (with_decision 18 (r / 2 == 1) (with_decision 17 true w))))
+    (sign_told b column.x (slice_index column.rows r)
+    (with_decision 18 (r % 2 == 1) (with_decision 18 (r / 2 == 1) (with_decision 17 true w))))
     (drop (suc r) column.rows)
 
 abbrev pub run_told : Block → ℕ → Walk → Column → Walk
 run_told b p w column = run_end b p column w (position (plane_bit b p column.x) column.rows)
 
 abbrev pub column_cleaned : Block → ℕ → Walk → Column → Walk
-column_cleaned b p w column = if is_run b w column then run_told b p w column else fold (cleaned b p column.x) w column.rows
+column_cleaned b p w column =
+    if is_run b w column then run_told b p w column else fold (cleaned b p column.x) w column.rows
 
 -- ---- passes and planes
 
@@ -134,7 +143,12 @@ abbrev pub is_significant_above : ℕ → ℤ → Bool
 is_significant_above p v = nat_le (2 ^ suc p) (unsigned_abs v)
 
 abbrev pub plane_start : Block → ℕ → Walk
-plane_start b p = record { decisions = []; significant = map (is_significant_above p) b.values; visited = replicate (length b.values) false }
+plane_start b p =
+    record {
+      decisions = [];
+      significant = map (is_significant_above p) b.values;
+      visited = replicate (length b.values) false;
+    }
 
 -- the highest plane has a cleanup pass alone, each further one all three
 unfoldable pub first_plane_decisions : Block → ℕ → List Decision

@@ -1,5 +1,6 @@
 -- The values of a code-block from its codeword: ITU-T T.800 Annex D, in the decoder's direction.
---     block_read kind width height planes passes codeword     the values that so many passes give, where the first has the highest of so many planes
+--     block_read kind width height planes passes codeword     the values that so many passes give, where
+--         the first has the highest of so many planes
 use Rattle.std.specs.Prelude.{ℕ, zero, suc, ◌+◌, ◌-◌, ◌*◌, ◌/◌, ◌^◌, ◌%◌, ◌==◌, Bool, false, not, ◌&&◌, if◌then◌else◌, List, map, length, drop, slice_index, slice_set, replicate, ℤ, pos, neg_ℤ, fold, zip}
 use Rattle.std.specs.Int.{from_bool}
 use Rattle.std.specs.List.{list_all, range_with_len}
@@ -12,7 +13,8 @@ pub record Area : Type 0 where
   pub width : ℕ
   pub height : ℕ
 
--- what is known so far, in raster order, and the decoder; visited are the samples that the propagation pass of this plane coded
+-- what is known so far, in raster order, and the decoder; visited are the samples that the propagation
+-- pass of this plane coded
 pub record Known : Type 0 where
   pub decoder : Decoder
   pub magnitudes : List ℕ
@@ -64,18 +66,25 @@ abbrev pub marked_visited : Area → ℕ → ℕ → Known → Known
 marked_visited a x y k = record k { visited = with_sample a.width k.visited x y }
 
 abbrev pub propagation_at : Area → ℕ → ℕ → Known → ℕ → Known
-propagation_at a p x k y = if propagation_reads a k x y then marked_visited a x y (zero_bit_read a p x y k) else k
+propagation_at a p x k y =
+    if propagation_reads a k x y then marked_visited a x y (zero_bit_read a p x y k) else k
 
 -- ---- magnitude refinement
 
 abbrev pub refinement_context : Area → ℕ → Known → ℕ → ℕ → ℕ
-refinement_context a p k x y = refine_context_at a.width k.significant (known_magnitude a k x y / 2 ^ suc p == 1) x y
+refinement_context a p k x y =
+    refine_context_at a.width k.significant (known_magnitude a k x y / 2 ^ suc p == 1) x y
 
 abbrev pub refined_read : Area → ℕ → ℕ → ℕ → ℕ → Known → Known
-refined_read a p x y context k = with_magnitude a x y (known_magnitude a k x y + from_bool (next_bit context k) * 2 ^ p) (behind_bit context k)
+refined_read a p x y context k =
+    with_magnitude a x y (known_magnitude a k x y + from_bool (next_bit context k) * 2 ^ p)
+    (behind_bit context k)
 
 abbrev pub refinement_at : Area → ℕ → ℕ → Known → ℕ → Known
-refinement_at a p x k y = if known_significant a k x y && not (known_visited a k x y) then refined_read a p x y (refinement_context a p k x y) k else k
+refinement_at a p x k y =
+    if known_significant a k x y && not (known_visited a k x y)
+    then refined_read a p x y (refinement_context a p k x y) k
+    else k
 
 -- ---- cleanup
 
@@ -96,13 +105,17 @@ abbrev pub run_row : Known → ℕ
 run_row k = 2 * from_bool (next_bit 18 k) + from_bool (next_bit 18 (behind_bit 18 k))
 
 abbrev pub run_broken : Area → ℕ → Column → Known → Known
-run_broken a p column k = fold (cleanup_at a p column.x) (sign_read a p column.x (slice_index column.rows (run_row k)) (behind_bit 18 (behind_bit 18 k))) (drop (suc (run_row k)) column.rows)
+run_broken a p column k =
+    fold (cleanup_at a p column.x)
+    (sign_read a p column.x (slice_index column.rows (run_row k)) (behind_bit 18 (behind_bit 18 k)))
+    (drop (suc (run_row k)) column.rows)
 
 abbrev pub run_read : Area → ℕ → Column → Known → Known
 run_read a p column k = if next_bit 17 k then run_broken a p column (behind_bit 17 k) else behind_bit 17 k
 
 abbrev pub cleanup_column : Area → ℕ → Known → Column → Known
-cleanup_column a p k column = if reads_run a k column then run_read a p column k else fold (cleanup_at a p column.x) k column.rows
+cleanup_column a p k column =
+    if reads_run a k column then run_read a p column k else fold (cleanup_at a p column.x) k column.rows
 
 -- ---- passes
 
@@ -120,7 +133,9 @@ refinement_read a p k = fold (refinement_column a p) k (scan a.width a.height)
 
 -- a cleanup pass ends its plane
 unfoldable pub cleanup_read : Area → ℕ → Known → Known
-cleanup_read a p k = record (fold (cleanup_column a p) k (scan a.width a.height)) { visited = replicate (a.width * a.height) false }
+cleanup_read a p k =
+    record (fold (cleanup_column a p) k (scan a.width a.height))
+    { visited = replicate (a.width * a.height) false }
 
 -- passes of a plane: 0 is cleanup, 1 propagation, 2 refinement
 abbrev pub pass_read : Area → ℕ → ℕ → Known → Known
@@ -142,7 +157,8 @@ nothing_known a codeword = record {
 }
 
 unfoldable pub passes_read : Area → ℕ → ℕ → List ℕ → Known
-passes_read a planes passes codeword = fold (numbered_pass a planes) (nothing_known a codeword) (range_with_len 0 passes)
+passes_read a planes passes codeword =
+    fold (numbered_pass a planes) (nothing_known a codeword) (range_with_len 0 passes)
 
 abbrev pub signed : Bool × ℕ → ℤ
 signed v = if v.0 then neg_ℤ (pos v.1) else pos v.1

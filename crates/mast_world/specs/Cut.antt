@@ -1,4 +1,5 @@
--- The cut: how far bit-planes are left out, so that a codestream stays within its limits. This is this project's own.
+-- The cut: how far bit-planes are left out, so that a codestream stays within its limits. This is this
+-- project's own.
 use Rattle.std.specs.Prelude.{ℕ, ◌≤◌, ◌<◌, Bool, ◌&&◌, nat_le, List, length, ℤ, find, unwrap_or}
 use Rattle.std.specs.List.{range_with_len}
 use Rattle.mast_world.specs.declared.picture.Shape.{Shape}

@@ -21,10 +21,13 @@ use Rattle.mast_world.specs.Cut.{least_cut}
 
 -- of components 0, 1 and 2, from planes of X', Y' and Z'
 abbrev pub component_planes : List ℕ → List ℕ → List ℕ → List (List ℤ)
-component_planes xs ys zs = component luma xs ys zs ∷ component chroma_blue xs ys zs ∷ component chroma_red xs ys zs ∷ []
+component_planes xs ys zs =
+    component luma xs ys zs ∷ component chroma_blue xs ys zs ∷ component chroma_red xs ys zs ∷ []
 
 abbrev pub picture_planes : ℕ → List ℕ → List (List ℤ)
-picture_planes power raw = component_planes (xyz_plane power x_weights raw) (xyz_plane power y_weights raw) (xyz_plane power z_weights raw)
+picture_planes power raw =
+    component_planes (xyz_plane power x_weights raw) (xyz_plane power y_weights raw)
+    (xyz_plane power z_weights raw)
 
 -- five levels (Annex F.4.1)
 unfoldable pub wave : Shape → List ℤ → List (List ℤ)
@@ -36,11 +39,15 @@ abbrev pub band_side_start : ℕ → ℕ → Bool → ℕ
 band_side_start n level high = if high then div_ceil n (2 ^ level) else 0
 
 abbrev pub band_part : Shape → List (List ℤ) → Band → List ℤ
-band_part shape area band = items_of (part_of (band_side_start shape.width band.level (is_high_in_rows band.kind)) (band_side_start shape.height band.level (is_high_in_columns band.kind)) (band_columns shape band) (band_rows shape band) area)
+band_part shape area band =
+    items_of (part_of (band_side_start shape.width band.level (is_high_in_rows band.kind))
+    (band_side_start shape.height band.level (is_high_in_columns band.kind)) (band_columns shape band)
+    (band_rows shape band) area)
 
 -- the quantised coefficients, of the transformed planes of the components
 abbrev pub quantised_band : Shape → List (List (List ℤ)) → Band → List ℤ
-quantised_band shape planes band = map (quantised band) (band_part shape (slice_index_or planes band.component []) band)
+quantised_band shape planes band =
+    map (quantised band) (band_part shape (slice_index_or planes band.component []) band)
 
 unfoldable pub quantised_planes : Shape → List (List (List ℤ)) → List ℤ
 quantised_planes shape planes = flat_map (quantised_band shape planes) all_bands

@@ -53,12 +53,14 @@ abbrev pub size_rules : ℕ → ℕ → List FieldRule
 size_rules width height =
     fixed 2 0x2F ∷ fixed 2 3 ∷ within 4 32 2048 ∷ within 4 32 1080 ∷ fixed 4 0 ∷ fixed 4 0
     ∷ fixed 4 width ∷ fixed 4 height ∷ fixed 4 0 ∷ fixed 4 0 ∷ fixed 2 3
-    ∷ fixed 1 11 ∷ fixed 1 1 ∷ fixed 1 1 ∷ fixed 1 11 ∷ fixed 1 1 ∷ fixed 1 1 ∷ fixed 1 11 ∷ fixed 1 1 ∷ fixed 1 1 ∷ []
+    ∷ fixed 1 11 ∷ fixed 1 1 ∷ fixed 1 1 ∷ fixed 1 11 ∷ fixed 1 1 ∷ fixed 1 1 ∷ fixed 1 11 ∷ fixed 1 1
+    ∷ fixed 1 1 ∷ []
 
 -- Annex A.6.1
 abbrev pub coding_rules : List FieldRule
 coding_rules =
-    fixed 2 0x12 ∷ fixed 1 1 ∷ fixed 1 4 ∷ fixed 2 1 ∷ fixed 1 1 ∷ fixed 1 5 ∷ fixed 1 3 ∷ fixed 1 3 ∷ fixed 1 0 ∷ fixed 1 0
+    fixed 2 0x12 ∷ fixed 1 1 ∷ fixed 1 4 ∷ fixed 2 1 ∷ fixed 1 1 ∷ fixed 1 5 ∷ fixed 1 3 ∷ fixed 1 3
+    ∷ fixed 1 0 ∷ fixed 1 0
     ∷ fixed 1 0x77 ∷ fixed 1 0x88 ∷ fixed 1 0x88 ∷ fixed 1 0x88 ∷ fixed 1 0x88 ∷ fixed 1 0x88 ∷ []
 
 -- Annex A.6.4 and equation E-2: the bit-planes of a sub-band are the guard bits and its exponent less 1
@@ -76,7 +78,9 @@ quantisation_rules guard_bits = fixed 2 0x23 ∷ guard_rule ∷ replicate 16 (st
 
 -- Annex A.7.1
 abbrev pub lengths_rules : List FieldRule
-lengths_rules = fixed 2 0x13 ∷ fixed 1 0 ∷ fixed 1 0x50 ∷ fixed 1 0 ∷ any_value 4 ∷ fixed 1 0 ∷ any_value 4 ∷ fixed 1 0 ∷ any_value 4 ∷ []
+lengths_rules =
+    fixed 2 0x13 ∷ fixed 1 0 ∷ fixed 1 0x50 ∷ fixed 1 0 ∷ any_value 4 ∷ fixed 1 0 ∷ any_value 4 ∷ fixed 1 0
+    ∷ any_value 4 ∷ []
 
 -- what was read so far; the number of bit-planes and the lengths are those of the last segment of their kind
 pub record HeadSoFar : Type 0 where
@@ -112,7 +116,8 @@ module _ (bytes : List ℕ) where
   abbrev pub comment_end : ℕ → Result ℕ MarkerRefusal
   comment_end at =
       on_ok (fields_end bytes (within 2 5 65535 ∷ []) at) (λ content.
-      if nat_lt (length bytes) (at + number_at bytes at 2) then Err (Truncated (length bytes)) else Ok (at + number_at bytes at 2))
+      if nat_lt (length bytes) (at + number_at bytes at 2) then Err (Truncated (length bytes))
+      else Ok (at + number_at bytes at 2))
 
   -- a segment behind its marker, and what it adds
   abbrev pub segment_end : ℕ → ℕ → Result ℕ MarkerRefusal
@@ -129,7 +134,8 @@ module _ (bytes : List ℕ) where
       else if marker == 0xFF55 then record head { parts = Some (parts_at at) }
       else record head { cut = cut_with head.cut at }
 
-  -- COD, QCD and TLM stand once each, in any order, with any number of comments; then the first tile-part begins
+  -- COD, QCD and TLM stand once each, in any order, with any number of comments; then the first tile-part
+  -- begins
   abbrev pub is_complete : HeadSoFar → Bool
   is_complete head = head.coded && is_some head.planes && is_some head.parts
 
@@ -146,7 +152,14 @@ module _ (bytes : List ℕ) where
   list_or_empty (Some xs) = xs
 
   abbrev pub head_at : HeadSoFar → ℕ → MainHead
-  head_at head at = record { shape = head.shape; mb = list_or_empty head.planes; parts = list_or_empty head.parts; cut = head.cut; next = at }
+  head_at head at =
+      record {
+        shape = head.shape;
+        mb = list_or_empty head.planes;
+        parts = list_or_empty head.parts;
+        cut = head.cut;
+        next = at;
+      }
 
   -- at most n segments, of which there are fewer than bytes
   unfoldable pub segments_read : ℕ → HeadSoFar → ℕ → Result MainHead MarkerRefusal
@@ -157,7 +170,14 @@ module _ (bytes : List ℕ) where
       else on_ok (segment_end marker (at + 2)) (segments_read n (with_segment marker (at + 2) head)))
 
   abbrev pub head_of_size : ℕ → ℕ → HeadSoFar
-  head_of_size width height = record { shape = record { width = width; height = height }; coded = false; planes = None; parts = None; cut = None }
+  head_of_size width height =
+      record {
+        shape = record { width = width; height = height };
+        coded = false;
+        planes = None;
+        parts = None;
+        cut = None;
+      }
 
   unfoldable pub main_read : Result MainHead MarkerRefusal
   main_read =

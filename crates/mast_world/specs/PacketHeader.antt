@@ -24,7 +24,8 @@ abbrev pub growth : ℕ → ℕ → ℕ
 growth passes len = bit_length len - (3 + log2 passes)
 
 abbrev pub length_bits : ℕ → ℕ → List Bool
-length_bits passes len = replicate (growth passes len) true ++ false ∷ low_bits (3 + growth passes len + log2 passes) len
+length_bits passes len =
+    replicate (growth passes len) true ++ false ∷ low_bits (3 + growth passes len + log2 passes) len
 
 -- ---- a sub-band's code-blocks in raster order (Annex B.10.4 and B.10.5)
 
@@ -32,30 +33,38 @@ length_bits passes len = replicate (growth passes len) true ++ false ∷ low_bit
 abbrev pub first_layer : PacketBlock → ℕ
 first_layer block = if block.included then 0 else 1
 
--- A block that isn't included counts as having more zero planes than any other. By how much more changes no bit.
+-- A block that isn't included counts as having more zero planes than any other. By how much more changes
+-- no bit.
 abbrev pub missing_planes : PacketBlock → ℕ
 missing_planes block = if block.included then block.zero_planes else 256
 
 abbrev pub included_bits : Tree → ℕ → PacketBlock → List Bool
-included_bits planes at block = leaf_bits (suc block.zero_planes) planes at ++ pass_bits block.passes ++ length_bits block.passes (length block.codeword)
+included_bits planes at block =
+    leaf_bits (suc block.zero_planes) planes at ++ pass_bits block.passes
+    ++ length_bits block.passes (length block.codeword)
 
 unfoldable pub blocks_bits : Tree → Tree → ℕ → List PacketBlock → List Bool
 blocks_bits layers planes at [] = []
 blocks_bits layers planes at (block ∷ blocks) =
     leaf_bits 1 layers at
     ++ (if block.included then included_bits planes at block else [])
-    ++ blocks_bits (leaf_told 1 layers at) (if block.included then leaf_told (suc block.zero_planes) planes at else planes) (suc at) blocks
+    ++ blocks_bits (leaf_told 1 layers at)
+    (if block.included then leaf_told (suc block.zero_planes) planes at else planes) (suc at) blocks
 
 abbrev pub band_bits : PacketBand → List Bool
-band_bits band = blocks_bits (new_tree band.columns band.rows (map first_layer band.blocks)) (new_tree band.columns band.rows (map missing_planes band.blocks)) 0 band.blocks
+band_bits band =
+    blocks_bits (new_tree band.columns band.rows (map first_layer band.blocks))
+    (new_tree band.columns band.rows (map missing_planes band.blocks)) 0 band.blocks
 
 -- ---- bytes (Annex B.10.1)
 
--- The bytes of bits that follow those of a byte: k bits are to come behind the next one, and byte is what those before it are worth.
+-- The bytes of bits that follow those of a byte: k bits are to come behind the next one, and byte is what
+-- those before it are worth.
 -- A byte that was begun is filled with zeros, and one behind FF is always begun.
 unfoldable pub packed_into : ℕ → ℕ → List Bool → List ℕ
 packed_into k byte [] = if k == 7 then [] else byte ∷ []
-packed_into zero byte (bit ∷ bits) = let full = byte + from_bool bit in full ∷ packed_into (if full == 255 then 6 else 7) 0 bits
+packed_into zero byte (bit ∷ bits) =
+    let full = byte + from_bool bit in full ∷ packed_into (if full == 255 then 6 else 7) 0 bits
 packed_into (suc k) byte (bit ∷ bits) = packed_into k (byte + from_bool bit * 2 ^ suc k) bits
 
 abbrev pub packed : List Bool → List ℕ

@@ -68,7 +68,8 @@ module _ (bytes : List ℕ) where
   abbrev pub refused_here : {A : Type 0} → (ℕ → HeadRefusal) → Bits A
   refused_here refusal p = Err (refusal (p.next - 1))
 
-  -- ---- tag trees: bits are read as long as the leaf wants them for the threshold t; it wants at most t of each level
+  -- ---- tag trees: bits are read as long as the leaf wants them for the threshold t; it wants at most t
+  -- of each level
 
   unfoldable pub leaf_read_within : ℕ → ℕ → ℕ → FoundTree → Bits FoundTree
   leaf_read_within zero t at tree = done tree
@@ -124,7 +125,8 @@ module _ (bytes : List ℕ) where
   planes_known (Some n) = done n
 
   abbrev pub passes_checked : ℕ → ℕ → Bits ℕ
-  passes_checked planes passes = if nat_lt (3 * planes - 2) passes then refused_here (λ at. TooManyPasses at passes) else done passes
+  passes_checked planes passes =
+      if nat_lt (3 * planes - 2) passes then refused_here (λ at. TooManyPasses at passes) else done passes
 
   abbrev pub included_read : ℕ → ℕ → FoundTree → Bits BlockHead
   included_read mb at planes = do
@@ -156,7 +158,9 @@ module _ (bytes : List ℕ) where
     ]
 
   abbrev pub band_read : BandShape → Bits (List BlockHead)
-  band_read s = blocks_read s.mb (blank_tree s.columns s.rows) (blank_tree s.columns s.rows) (range_with_len 0 (s.columns * s.rows))
+  band_read s =
+      blocks_read s.mb (blank_tree s.columns s.rows) (blank_tree s.columns s.rows)
+      (range_with_len 0 (s.columns * s.rows))
 
   unfoldable pub bands_read : List BandShape → Bits (List (List BlockHead))
   bands_read [] = done []
@@ -172,16 +176,24 @@ module _ (bytes : List ℕ) where
   -- ---- codewords, which stand behind the header in the same order
 
   abbrev pub block_with : BlockHead → ℕ → PacketBlock
-  block_with head at = record { included = true; zero_planes = head.zero_planes; passes = head.passes; codeword = slice_range bytes at (at + head.size) }
+  block_with head at =
+      record {
+        included = true;
+        zero_planes = head.zero_planes;
+        passes = head.passes;
+        codeword = slice_range bytes at (at + head.size);
+      }
 
   unfoldable pub codewords_read : List BlockHead → Steps ℕ HeadRefusal (List PacketBlock)
   codewords_read [] at = Ok ([], at)
   codewords_read (head ∷ heads) at =
       if head.included
-      then (if nat_lt (length bytes) (at + head.size) then Err (LengthPast at head.size) else on_ok (codewords_read heads (at + head.size)) (λ r. Ok (block_with head at ∷ r.0, r.1)))
+      then (if nat_lt (length bytes) (at + head.size) then Err (LengthPast at head.size)
+      else on_ok (codewords_read heads (at + head.size)) (λ r. Ok (block_with head at ∷ r.0, r.1)))
       else on_ok (codewords_read heads at) (λ r. Ok (no_block ∷ r.0, r.1))
 
-  unfoldable pub band_codewords_read : List BandShape → List (List BlockHead) → Steps ℕ HeadRefusal (List PacketBand)
+  unfoldable pub band_codewords_read : List BandShape → List (List BlockHead)
+      → Steps ℕ HeadRefusal (List PacketBand)
   band_codewords_read (s ∷ shapes) (heads ∷ more) at =
       on_ok (codewords_read heads at) (λ (r : List PacketBlock × ℕ).
       on_ok (band_codewords_read shapes more r.1) (λ rest.
@@ -201,7 +213,9 @@ module _ (bytes : List ℕ) where
       Ok (record { bands = bands.0; next = bands.1 }))))
 
   abbrev pub packet_from : List BandShape → Bool × BitPlace → Result PacketRead HeadRefusal
-  packet_from shapes first = if first.0 then full_packet_read shapes first.1 else Ok (record { bands = map empty_band shapes; next = (first.1).next })
+  packet_from shapes first =
+      if first.0 then full_packet_read shapes first.1
+      else Ok (record { bands = map empty_band shapes; next = (first.1).next })
 
   -- where the first bit is 0, the packet is empty and the bits behind it aren't looked at
   unfoldable pub packet_read : ℕ → List BandShape → Result PacketRead HeadRefusal

@@ -1,4 +1,5 @@
--- Precincts, code-blocks and the order of packets: ITU-T T.800 Annex B.6, B.7 and B.12.1.5 (CPRL), with one tile and one layer.
+-- Precincts, code-blocks and the order of packets: ITU-T T.800 Annex B.6, B.7 and B.12.1.5 (CPRL), with
+-- one tile and one layer.
 --     resolution_columns shape r      the size of resolution r; likewise rows
 --     precinct_columns shape r        how many precincts resolution r has in a row; likewise rows
 --     blocks_in shape band precinct   the code-blocks of a precinct in a sub-band
@@ -68,7 +69,13 @@ abbrev pub block_rows : Shape → Band → ℕ
 block_rows shape band = div_ceil (band_rows shape band) 32
 
 abbrev pub blocks_at : Shape → Band → ℕ → ℕ → BlockArea
-blocks_at shape band px py = record { x = 4 * px; y = 4 * py; columns = group_length (block_columns shape band) 4 px; rows = group_length (block_rows shape band) 4 py }
+blocks_at shape band px py =
+    record {
+      x = 4 * px;
+      y = 4 * py;
+      columns = group_length (block_columns shape band) 4 px;
+      rows = group_length (block_rows shape band) 4 py;
+    }
 
 -- a resolution's precincts, of four blocks in each direction, reach over all blocks of the sub-band
 pub record HasPrecincts (shape : Shape) (band : Band) : Type 0 where
@@ -77,11 +84,14 @@ pub record HasPrecincts (shape : Shape) (band : Band) : Type 0 where
 
 -- precincts are numbered in raster order
 abbrev pub blocks_in : Shape → Band → ℕ → BlockArea
-blocks_in shape band precinct = let across = precinct_columns shape (resolution band) in blocks_at shape band (precinct % across) (precinct / across)
+blocks_in shape band precinct =
+    let across = precinct_columns shape (resolution band) in
+    blocks_at shape band (precinct % across) (precinct / across)
 
 -- ---- the order of packets
 
--- a precinct: its resolution, its number there in raster order, and its upper left corner in the picture's samples
+-- a precinct: its resolution, its number there in raster order, and its upper left corner in the picture's
+-- samples
 pub record Precinct : Type 0 where
   pub resolution : ℕ
   pub number : ℕ
@@ -92,17 +102,26 @@ abbrev pub precinct_side : ℕ → ℕ
 precinct_side r = 2 ^ (precinct_exponent r + 5 - r)
 
 abbrev pub precinct_at : ℕ → ℕ → ℕ → Precinct
-precinct_at r across number = record { resolution = r; number = number; x = number % across * precinct_side r; y = number / across * precinct_side r }
+precinct_at r across number =
+    record {
+      resolution = r;
+      number = number;
+      x = number % across * precinct_side r;
+      y = number / across * precinct_side r;
+    }
 
 abbrev pub resolution_precincts : Shape → ℕ → List Precinct
-resolution_precincts shape r = map (precinct_at r (precinct_columns shape r)) (range_with_len 0 (precinct_columns shape r * precinct_rows shape r))
+resolution_precincts shape r =
+    map (precinct_at r (precinct_columns shape r))
+    (range_with_len 0 (precinct_columns shape r * precinct_rows shape r))
 
 abbrev pub all_precincts : Shape → List Precinct
 all_precincts shape = flat_map (resolution_precincts shape) (0 ∷ 1 ∷ 2 ∷ 3 ∷ 4 ∷ 5 ∷ [])
 
 -- by position, rows first, then by resolution
 abbrev pub comes_before : Precinct → Precinct → Bool
-comes_before p q = nat_lt p.y q.y || (p.y == q.y && (nat_lt p.x q.x || (p.x == q.x && nat_lt p.resolution q.resolution)))
+comes_before p q =
+    nat_lt p.y q.y || (p.y == q.y && (nat_lt p.x q.x || (p.x == q.x && nat_lt p.resolution q.resolution)))
 
 abbrev pub placed : Precinct → List Precinct → List Precinct
 placed p [] = p ∷ []

@@ -1,4 +1,5 @@
--- Steps that read and may be refused: each goes on from a place, and gives a value and the next place, or a refusal.
+-- Steps that read and may be refused: each goes on from a place, and gives a value and the next place, or
+-- a refusal.
 use Rattle.std.specs.Prelude.{Result, Ok, Err}
 
 abbrev pub Steps : Type 0 → Type 0 → Type 0 → Type 0

@@ -1,5 +1,6 @@
 -- Decoding a codestream to its quantised coefficients: ITU-T T.800 in this profile.
---     stream_read bytes     the coefficients, or the first refusal by place; at one place one of markers comes first, then one of packets, then one of parts
+--     stream_read bytes     the coefficients, or the first refusal by place; at one place one of markers
+--         comes first, then one of packets, then one of parts
 -- Bit-planes that weren't coded are zero.
 use Rattle.std.specs.Prelude.{ℕ, suc, ◌+◌, ◌-◌, ◌*◌, ◌/◌, ◌%◌, ◌==◌, Bool, true, false, ◌&&◌, if◌then◌else◌, nat_lt, List, [], ◌∷◌, map, length, slice_index, slice_index_or, ℤ, pos, Option, Some, None, Result, Ok, Err, find, zip, sum_by, count_by}
 use Rattle.std.specs.List.{flat_map, range_with_len}
@@ -40,10 +41,12 @@ band_shape head precinct band =
     record { columns = area.columns; rows = area.rows; mb = slice_index head.mb (band_place band % 16) }
 
 abbrev pub precinct_shapes : MainHead → ℕ → Precinct → List BandShape
-precinct_shapes head component precinct = map (band_shape head precinct.number) (resolution_bands component precinct.resolution)
+precinct_shapes head component precinct =
+    map (band_shape head precinct.number) (resolution_bands component precinct.resolution)
 
 -- the sub-bands of each precinct in turn, and the place behind
-unfoldable pub packets_read : List ℕ → MainHead → ℕ → List Precinct → ℕ → Result (List (List PacketBand) × ℕ) ReadRefusal
+unfoldable pub packets_read : List ℕ → MainHead → ℕ → List Precinct → ℕ
+    → Result (List (List PacketBand) × ℕ) ReadRefusal
 packets_read bytes head component [] at = Ok ([], at)
 packets_read bytes head component (precinct ∷ precincts) at =
     on_ok (head_step (packet_read bytes at (precinct_shapes head component precinct))) (λ (r : PacketRead).
@@ -72,18 +75,22 @@ stated_length head component = slice_index head.parts component
 -- from behind the marker SOT up to the packets
 abbrev pub tile_part_start : List ℕ → MainHead → ℕ → ℕ → Result ℕ MarkerRefusal
 tile_part_start bytes head component at =
-    on_ok (fields_end bytes (fixed 2 10 ∷ fixed 2 0 ∷ fixed 4 (stated_length head component) ∷ fixed 1 component ∷ fixed 1 3 ∷ []) at) (λ data_at.
+    on_ok (fields_end bytes (fixed 2 10 ∷ fixed 2 0 ∷ fixed 4 (stated_length head component)
+    ∷ fixed 1 component ∷ fixed 1 3 ∷ []) at) (λ data_at.
     on_ok (marker_at bytes (λ m. m == 0xFF93) data_at) (λ m. Ok (data_at + 2)))
 
 abbrev pub tile_part_read : List ℕ → MainHead → ℕ → ℕ → Result (List (List PacketBand) × ℕ) ReadRefusal
 tile_part_read bytes head component at =
     on_ok (marker_step (tile_part_start bytes head component (at + 2))) (λ packets_at.
-    on_ok (packets_read bytes head component (packet_order head.shape) packets_at) (λ (r : List (List PacketBand) × ℕ).
-    on_ok (tile_part_end bytes component (stated_length head component) at (marker_behind component) r.1) (λ next.
+    on_ok (packets_read bytes head component (packet_order head.shape) packets_at)
+    (λ (r : List (List PacketBand) × ℕ).
+    on_ok (tile_part_end bytes component (stated_length head component) at (marker_behind component) r.1)
+    (λ next.
     Ok (r.0, next))))
 
 -- the parts of these components in turn
-unfoldable pub parts_read : List ℕ → MainHead → List ℕ → ℕ → Result (List (List (List PacketBand)) × ℕ) ReadRefusal
+unfoldable pub parts_read : List ℕ → MainHead → List ℕ → ℕ
+    → Result (List (List (List PacketBand)) × ℕ) ReadRefusal
 parts_read bytes head [] at = Ok ([], at)
 parts_read bytes head (component ∷ components) at =
     on_ok (tile_part_read bytes head component at) (λ (r : List (List PacketBand) × ℕ).
@@ -108,33 +115,48 @@ band_in band None = no_band
 band_in band (Some p) = slice_index_or p.1 (if resolution band == 0 then 0 else place_in_packet band) no_band
 
 unfoldable pub packet_band_of : Shape → List (List PacketBand) → Band → ℕ → PacketBand
-packet_band_of shape packets band number = band_in band (find (is_precinct (resolution band) number) (zip (packet_order shape) packets))
+packet_band_of shape packets band number =
+    band_in band (find (is_precinct (resolution band) number) (zip (packet_order shape) packets))
 
 -- block (bx, by) of a sub-band
 abbrev pub block_in : PacketBand → ℕ → ℕ → PacketBlock
 block_in band x y = slice_index_or band.blocks (y * band.columns + x) not_included
 
 unfoldable pub read_block : Shape → List (List PacketBand) → Band → ℕ → ℕ → PacketBlock
-read_block shape packets band bx by = block_in (packet_band_of shape packets band (by / 4 * precinct_columns shape (resolution band) + bx / 4)) (bx % 4) (by % 4)
+read_block shape packets band bx by =
+    block_in (packet_band_of shape packets band
+    (by / 4 * precinct_columns shape (resolution band) + bx / 4)) (bx % 4) (by % 4)
 
 -- its values; those of a block that isn't included are zero
 unfoldable pub block_values : Shape → ℕ → Band → PacketBlock → ℕ → ℕ → List ℤ
 block_values shape mb band block bx by =
-    block_read (record { kind = band.kind; width = group_length (band_columns shape band) 32 bx; height = group_length (band_rows shape band) 32 by }) (mb - block.zero_planes) block.passes block.codeword
+    block_read (record {
+      kind = band.kind;
+      width = group_length (band_columns shape band) 32 bx;
+      height = group_length (band_rows shape band) 32 by;
+    }) (mb - block.zero_planes) block.passes
+    block.codeword
 
 abbrev pub blocks_row : Shape → ℕ → List (List PacketBand) → Band → ℕ → List (List ℤ)
-blocks_row shape mb packets band by = map (λ bx. block_values shape mb band (read_block shape packets band bx by) bx by) (range_with_len 0 (block_columns shape band))
+blocks_row shape mb packets band by =
+    map (λ bx. block_values shape mb band (read_block shape packets band bx by) bx by)
+    (range_with_len 0 (block_columns shape band))
 
 -- the values of all blocks of a sub-band, as a grid of blocks
 unfoldable pub blocks_grid : Shape → ℕ → List (List PacketBand) → Band → List (List (List ℤ))
-blocks_grid shape mb packets band = map (blocks_row shape mb packets band) (range_with_len 0 (block_rows shape band))
+blocks_grid shape mb packets band =
+    map (blocks_row shape mb packets band) (range_with_len 0 (block_rows shape band))
 
 -- the coefficient in column x and row y is in block (x / 32, y / 32)
 abbrev pub coefficient_at : Shape → Band → List (List (List ℤ)) → ℕ → ℕ → ℤ
-coefficient_at shape band blocks y x = slice_index_or (slice_index_or (slice_index_or blocks (y / 32) []) (x / 32) []) (y % 32 * group_length (band_columns shape band) 32 (x / 32) + x % 32) (pos 0)
+coefficient_at shape band blocks y x =
+    slice_index_or (slice_index_or (slice_index_or blocks (y / 32) []) (x / 32) [])
+    (y % 32 * group_length (band_columns shape band) 32 (x / 32) + x % 32) (pos 0)
 
 abbrev pub coefficients_of_blocks : Shape → Band → List (List (List ℤ)) → List ℤ
-coefficients_of_blocks shape band blocks = flat_map (λ y. map (coefficient_at shape band blocks y) (range_with_len 0 (band_columns shape band))) (range_with_len 0 (band_rows shape band))
+coefficients_of_blocks shape band blocks =
+    flat_map (λ y. map (coefficient_at shape band blocks y) (range_with_len 0 (band_columns shape band)))
+    (range_with_len 0 (band_rows shape band))
 
 unfoldable pub band_read_values : MainHead → List (List (List PacketBand)) → Band → List ℤ
 band_read_values head parts band =

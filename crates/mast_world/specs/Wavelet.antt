@@ -1,5 +1,6 @@
 -- The component transform and the 9-7 wavelet transform: ITU-T T.800 Annex G.3 and Annex F.4.8, five levels.
--- Samples have 13 bits behind the point, constants of the lifting steps 16. The fixed point and the clamp are this project's own.
+-- Samples have 13 bits behind the point, constants of the lifting steps 16. The fixed point and the clamp
+-- are this project's own.
 --     lifted k parity line      the line after one lifting step
 --     transformed_line line     a line after its five steps, low samples first
 --     level rows                an area after one level: columns, rows, clamp
@@ -30,7 +31,8 @@ component f _ _ _ = []
 
 -- ---- one line (Annex F.4.8.2)
 
--- the sample before place i and the one behind it, in a line of n: an index outside is reflected at the end (Annex F.4.7)
+-- the sample before place i and the one behind it, in a line of n: an index outside is reflected at the
+-- end (Annex F.4.7)
 abbrev pub place_before : ℕ → ℕ
 place_before zero = 1
 place_before (suc i) = i
@@ -46,7 +48,10 @@ abbrev pub scaled : ℤ → ℤ → ℤ
 scaled k s = int_shr (k *ℤ s) 16
 
 abbrev pub lifted_sample : ℤ → ℕ → List ℤ → ℕ → ℤ
-lifted_sample k parity line i = if i % 2 == parity then sample line i +ℤ scaled k (sample line (place_before i) +ℤ sample line (place_behind (length line) i)) else sample line i
+lifted_sample k parity line i =
+    if i % 2 == parity
+    then sample line i +ℤ scaled k (sample line (place_before i) +ℤ sample line (place_behind (length line) i))
+    else sample line i
 
 -- to each sample at a place of this parity, k times its two neighbours is added
 unfoldable pub lifted : ℤ → ℕ → List ℤ → List ℤ
@@ -65,11 +70,15 @@ odd_samples (a ∷ b ∷ line) = b ∷ odd_samples line
 
 -- the four lifting steps with the constants α, β, γ, δ
 abbrev pub four_steps : List ℤ → List ℤ
-four_steps line = lifted (pos 29066) 0 (lifted (pos 57862) 1 (lifted (neg_ℤ (pos 3472)) 0 (lifted (neg_ℤ (pos 103949)) 1 line)))
+four_steps line =
+    lifted (pos 29066) 0 (lifted (pos 57862) 1
+    (lifted (neg_ℤ (pos 3472)) 0 (lifted (neg_ℤ (pos 103949)) 1 line)))
 
 -- the low samples, then the high ones, each scaled
 unfoldable pub transformed_line : List ℤ → List ℤ
-transformed_line line = map (scaled (pos 53274)) (even_samples (four_steps line)) ++ map (scaled (pos 80621)) (odd_samples (four_steps line))
+transformed_line line =
+    map (scaled (pos 53274)) (even_samples (four_steps line))
+    ++ map (scaled (pos 80621)) (odd_samples (four_steps line))
 
 -- ---- levels (Annex F.4.2 to F.4.4); an area is a grid of samples
 
@@ -86,4 +95,6 @@ low_count n = div_ceil n 2
 -- n levels on the upper left part of columns × rows of an area
 unfoldable pub transformed : ℕ → ℕ → ℕ → List (List ℤ) → List (List ℤ)
 transformed zero columns rows area = area
-transformed (suc n) columns rows area = transformed n (low_count columns) (low_count rows) (with_corner (level (part_of 0 0 columns rows area)) area)
+transformed (suc n) columns rows area =
+    transformed n (low_count columns) (low_count rows)
+    (with_corner (level (part_of 0 0 columns rows area)) area)
