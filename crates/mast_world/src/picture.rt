@@ -63,10 +63,11 @@ pub struct Task {
 }
 
 impl Params {
+    ghost use Rattle.mast_world.specs.Encode.{shape_of};
+
     /// The picture's size.
     pub fn shape(&self) -> Shape
-        ensures width { result.width ≡ self.now.width }
-        ensures height { result.height ≡ self.now.height }
+        ensures { result ≡ shape_of self.now }
     {
         Shape {
             width: self.width,
