@@ -1,12 +1,15 @@
 -- The inputs of worked values.
-use Rattle.std.specs.Prelude.{ℕ, Bool, true, false, List, [], ◌∷◌, map, ℤ, pos, negsuc}
+use Rattle.std.specs.Prelude.{ℕ, Bool, true, false, List, [], ◌∷◌, map, ℤ, pos, negsuc, Result, Ok, Err}
 use Rattle.mast_world.specs.declared.picture.Shape.{Shape}
 use Rattle.mast_world.specs.declared.picture.BandKind.{BandKind}
 use Rattle.mast_world.specs.declared.picture.BandKind.TheVariants.{LL}
 use Rattle.mast_world.specs.declared.packet.PacketBlock.{PacketBlock}
 use Rattle.mast_world.specs.declared.packet.PacketBand.{PacketBand}
 use Rattle.mast_world.specs.declared.packet.BandShape.{BandShape}
+use Rattle.mast_world.specs.declared.packet.HeadRefusal.{HeadRefusal}
 use Rattle.mast_world.specs.Mq.{Decision}
+use Rattle.mast_world.specs.PacketHeader.{pass_bits, packed}
+use Rattle.mast_world.specs.PacketReading.{BitPlace, pass_count_read}
 use Rattle.mast_world.specs.BlockDecisions.{Block}
 
 -- ---- the arithmetic coder and code-blocks
@@ -55,11 +58,19 @@ three_bands = band_of_one included_block ∷ band_of_one missing_block ∷ band_
 abbrev pub no_bands : List PacketBand
 no_bands = band_of_one missing_block ∷ band_of_one missing_block ∷ band_of_one missing_block ∷ []
 
-abbrev pub shape_of_one : BandShape
-shape_of_one = record { columns = 1; rows = 1; mb = 12 }
+abbrev pub shape_of_planes : ℕ → BandShape
+shape_of_planes mb = record { columns = 1; rows = 1; mb = mb }
 
 abbrev pub three_shapes : List BandShape
-three_shapes = shape_of_one ∷ shape_of_one ∷ shape_of_one ∷ []
+three_shapes = shape_of_planes 12 ∷ shape_of_planes 12 ∷ shape_of_planes 12 ∷ []
+
+-- what is read from the bits of n passes, and 0 where that is refused
+abbrev pub number_in : Result (ℕ × BitPlace) HeadRefusal → ℕ
+number_in (Ok r) = r.0
+number_in (Err e) = 0
+
+abbrev pub passes_back : ℕ → ℕ
+passes_back n = number_in (pass_count_read (packed (pass_bits n)) (record { next = 0; byte = 0; left = 0 }))
 
 -- ---- the smallest picture, all zero
 

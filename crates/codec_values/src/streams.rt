@@ -1,8 +1,8 @@
-ghost use Rattle.std.specs.Prelude.{◌≡◌, ◌≤◌, ℕ, ℤ, pos, [], ◌∷◌, ◌++◌, List, length, map, replicate, take, Some, Ok, Err};
+ghost use Rattle.std.specs.Prelude.{◌≡◌, ◌≤◌, ℕ, ℤ, pos, [], ◌∷◌, ◌++◌, List, length, map, replicate, slice_set, take, Some, Ok, Err};
 ghost use Rattle.mast_world.specs.declared.picture.Shape.{Shape};
 ghost use Rattle.mast_world.specs.declared.picture.Limits.{Limits};
-ghost use Rattle.mast_world.specs.declared.reading.ReadRefusal.TheVariants.{Marker, After};
-ghost use Rattle.mast_world.specs.declared.reading.MarkerRefusal.TheVariants.{Truncated};
+ghost use Rattle.mast_world.specs.declared.reading.ReadRefusal.TheVariants.{Marker, PartLength, After};
+ghost use Rattle.mast_world.specs.declared.reading.MarkerRefusal.TheVariants.{Truncated, Marker as WrongMarker, Field};
 ghost use Rattle.mast_world.specs.Codestream.{main_header, stream, part_lengths};
 ghost use Rattle.mast_world.specs.Cut.{IsWithin, IsLeastCut, least_cut};
 ghost use Rattle.mast_world.specs.StreamReading.{stream_read};
@@ -27,6 +27,21 @@ pub fn reading_values()
         }) }
     ensures cut_short { stream_read (take 204 zero_stream) ≡ Err (Marker (Truncated 204)) }
     ensures too_long { stream_read (zero_stream ++ 0 ∷ []) ≡ Err (After 205) }
+{}
+
+/// Changed bytes of it are refused at their field, or where the tile-part ends.
+pub fn refusal_values()
+    // A width of 31.
+    ensures width { stream_read (slice_set zero_stream 11 31) ≡ Err (Marker (Field 8 31)) }
+    // A second segment COD in the place of QCD.
+    ensures twice { stream_read (slice_set zero_stream 72 0x52) ≡ Err (Marker (WrongMarker 71 0xFF52)) }
+    // Two guard bits, and an exponent of 31.
+    ensures planes { stream_read (slice_set (slice_set zero_stream 75 0x42) 76 0xF8) ≡ Err (Marker (Field 76 0xF800)) }
+    // A comment whose length is 4.
+    ensures comment { stream_read (slice_set zero_stream 132 4) ≡ Err (Marker (Field 131 4)) }
+    // A tile-part's length of 21, in the tile-part alone and in both places.
+    ensures stated { stream_read (slice_set zero_stream 152 21) ≡ Err (Marker (Field 149 21)) }
+    ensures part { stream_read (slice_set (slice_set zero_stream 118 21) 152 21) ≡ Err (PartLength 0 21) }
 {}
 
 /// The main header has 143 bytes.

@@ -85,8 +85,11 @@ module _ (bytes : List ℕ) where
 
   -- ---- passes (table B.4) and lengths (Annex B.10.7)
 
+  abbrev pub passes_above : ℕ → ℕ → Bits ℕ
+  passes_above least n = done (least + n)
+
   abbrev pub many_passes : ℕ → Bits ℕ
-  many_passes n = if nat_lt n 31 then done (6 + n) else number_read 7 37
+  many_passes n = if nat_lt n 31 then done (6 + n) else number_read 7 0 >>= passes_above 37
 
   abbrev pub some_passes : ℕ → Bits ℕ
   some_passes n = if nat_lt n 3 then done (3 + n) else number_read 5 0 >>= many_passes

@@ -19,6 +19,10 @@ pub returns-clause-thirty_seven_passes : goal.returns-clause-thirty_seven_passes
 unfolding computed_blocks computed_packets
 returns-clause-thirty_seven_passes c = refl
 
+pub returns-clause-read : goal.returns-clause-read
+unfolding computed_blocks computed_packets
+returns-clause-read c = refl
+
 pub returns-clause-eight_ones : goal.returns-clause-eight_ones
 unfolding computed_blocks computed_packets
 returns-clause-eight_ones c = refl
