@@ -1,9 +1,10 @@
 ghost use Rattle.std.specs.Prelude.{◌≡◌, ◌*◌, ◌<◌, ℕ, ℤ, List, length, IsTrue, [], ◌∷◌, map, take, sum_by, count_by, ◌==◌};
+ghost use Rattle.std.specs.List.Sorted.{IsSortedBy};
 ghost use Rattle.std.specs.List.{list_all, range_with_len, flat_map, AllByRecursion};
 ghost use Rattle.mast_world.specs.declared.picture.Shape.{Shape};
 ghost use Rattle.mast_world.specs.Bands.{component_bands, all_bands, band_columns, band_rows, band_length, rank, band_place, band_values};
 ghost use Rattle.mast_world.specs.Encode.{kept_coefficients};
-ghost use Rattle.mast_world.specs.Precincts.{precinct_columns, precinct_rows, packet_order, OneGroup, HasPrecincts};
+ghost use Rattle.mast_world.specs.Precincts.{precinct_columns, precinct_rows, Precinct, comes_before, all_precincts, packet_order, OneGroup, HasPrecincts};
 
 /// The sub-bands of a picture of 33 columns and 47 rows, and the order of all sub-bands.
 pub fn sub_band_values()
@@ -33,6 +34,13 @@ pub fn coefficient_laws()
         → flat_map (band_values shape q) all_bands ≡ q }
     ensures cut_zero { (shape : Shape) (q : List ℤ) → length q ≡ 3 * (shape.width * shape.height)
         → kept_coefficients shape 0 q ≡ q }
+{}
+
+/// The packets of a component are all its precincts, since any measure of them sums to the same, and no one
+/// comes before the one in front of it.
+pub fn packet_order_laws()
+    ensures same { (f : Precinct → ℕ) (shape : Shape) → sum_by f (packet_order shape) ≡ sum_by f (all_precincts shape) }
+    ensures in_order { (shape : Shape) → IsSortedBy comes_before (packet_order shape) }
 {}
 
 /// Precincts and the first packets of a full picture and of a narrow one, by resolution and number.

@@ -6,3 +6,4 @@ pub mod ColourLaws
 pub mod CutLaws
 pub mod CoefficientLaws
 pub mod StreamLaws
+pub mod OrderLaws
