@@ -1,12 +1,17 @@
 -- The inputs of worked values.
 use Rattle.std.specs.Prelude.{ℕ, Bool, true, false, List, [], ◌∷◌, map, ℤ, pos, negsuc, Result, Ok, Err}
 use Rattle.mast_world.specs.declared.picture.Shape.{Shape}
+use Rattle.mast_world.specs.declared.picture.Band.{Band}
 use Rattle.mast_world.specs.declared.picture.BandKind.{BandKind}
 use Rattle.mast_world.specs.declared.picture.BandKind.TheVariants.{LL}
 use Rattle.mast_world.specs.declared.packet.PacketBlock.{PacketBlock}
 use Rattle.mast_world.specs.declared.packet.PacketBand.{PacketBand}
 use Rattle.mast_world.specs.declared.packet.BandShape.{BandShape}
 use Rattle.mast_world.specs.declared.packet.HeadRefusal.{HeadRefusal}
+use Rattle.mast_world.specs.Bands.{resolution_bands}
+use Rattle.mast_world.specs.Precincts.{BlockArea, block_columns, block_rows, blocks_in, Precinct, packet_order}
+use Rattle.mast_world.specs.Codestream.{block_places}
+use Rattle.mast_world.specs.StreamReading.{read_block}
 use Rattle.mast_world.specs.Mq.{Decision}
 use Rattle.mast_world.specs.PacketHeader.{pass_bits, packed}
 use Rattle.mast_world.specs.PacketReading.{BitPlace, pass_count_read}
@@ -71,6 +76,41 @@ number_in (Err e) = 0
 
 abbrev pub passes_back : ℕ → ℕ
 passes_back n = number_in (pass_count_read (packed (pass_bits n)) (record { next = 0; byte = 0; left = 0 }))
+
+-- ---- packets of a picture whose every code-block has its place in the sub-band for its codeword
+
+abbrev pub labelled_block : ℕ × ℕ → PacketBlock
+labelled_block place = record { included = true; zero_planes = 0; passes = 1; codeword = place.0 ∷ place.1 ∷ [] }
+
+abbrev pub labelled_band : Shape → ℕ → Band → PacketBand
+labelled_band shape number band =
+    let area = blocks_in shape band number in
+    record { columns = area.columns; rows = area.rows; blocks = map labelled_block (block_places area) }
+
+abbrev pub labelled_packet : Shape → Precinct → List PacketBand
+labelled_packet shape precinct = map (labelled_band shape precinct.number) (resolution_bands 0 precinct.resolution)
+
+abbrev pub labelled_packets : Shape → List (List PacketBand)
+labelled_packets shape = map (labelled_packet shape) (packet_order shape)
+
+-- what a reader finds at each place of a sub-band, and the places
+abbrev pub label_found : Shape → Band → ℕ × ℕ → List ℕ
+label_found shape band place = (read_block shape (labelled_packets shape) band place.0 place.1).codeword
+
+abbrev pub label_of : ℕ × ℕ → List ℕ
+label_of place = place.0 ∷ place.1 ∷ []
+
+abbrev pub whole_area : Shape → Band → BlockArea
+whole_area shape band = record { x = 0; y = 0; columns = block_columns shape band; rows = block_rows shape band }
+
+abbrev pub labels_found : Shape → Band → List (List ℕ)
+labels_found shape band = map (label_found shape band) (block_places (whole_area shape band))
+
+abbrev pub labels : Shape → Band → List (List ℕ)
+labels shape band = map label_of (block_places (whole_area shape band))
+
+abbrev pub wide : Shape
+wide = record { width = 600; height = 300 }
 
 -- ---- the smallest picture, all zero
 

@@ -15,5 +15,8 @@ pub use bands::{
 pub use blocks::{block_values, coder_values};
 pub use colour::{colour_laws, colour_values};
 pub use packets::{header_laws, header_values, packet_values, tag_tree_values};
-pub use streams::{cut_laws, main_header_laws, reading_values, refusal_values, zero_stream_values};
+pub use streams::{
+    block_place_values, cut_laws, main_header_laws, reading_values, refusal_values,
+    zero_stream_values,
+};
 pub use transform::{component_values, lifting_values, quantiser_laws, quantiser_values};

@@ -3,10 +3,11 @@ ghost use Rattle.mast_world.specs.declared.picture.Shape.{Shape};
 ghost use Rattle.mast_world.specs.declared.picture.Limits.{Limits};
 ghost use Rattle.mast_world.specs.declared.reading.ReadRefusal.TheVariants.{Marker, PartLength, After};
 ghost use Rattle.mast_world.specs.declared.reading.MarkerRefusal.TheVariants.{Truncated, Marker as WrongMarker, Field};
+ghost use Rattle.mast_world.specs.Bands.{component_bands};
 ghost use Rattle.mast_world.specs.Codestream.{main_header, stream, part_lengths};
 ghost use Rattle.mast_world.specs.Cut.{IsWithin, IsLeastCut, least_cut};
 ghost use Rattle.mast_world.specs.StreamReading.{stream_read};
-ghost use Rattle.codec_values.specs.Worked.{zero_stream, small};
+ghost use Rattle.codec_values.specs.Worked.{zero_stream, small, wide, labels, labels_found};
 
 /// The smallest picture without any coefficient that isn't zero.
 pub fn zero_stream_values()
@@ -42,6 +43,12 @@ pub fn refusal_values()
     // A tile-part's length of 21, in the tile-part alone and in both places.
     ensures stated { stream_read (slice_set zero_stream 152 21) ≡ Err (Marker (Field 149 21)) }
     ensures part { stream_read (slice_set (slice_set zero_stream 118 21) 152 21) ≡ Err (PartLength 0 21) }
+{}
+
+/// In a picture of 600 columns and 300 rows, which has several precincts in each direction, a reader finds
+/// each code-block where the writer put it.
+pub fn block_place_values()
+    ensures { map (labels_found wide) (component_bands 0) ≡ map (labels wide) (component_bands 0) }
 {}
 
 /// The main header has 143 bytes.
