@@ -2,7 +2,7 @@
 --     stream_read bytes     the coefficients, or the first refusal by place; at one place one of markers
 --         comes first, then one of packets, then one of parts
 -- Bit-planes that weren't coded are zero.
-use Rattle.std.specs.Prelude.{ℕ, suc, ◌+◌, ◌-◌, ◌*◌, ◌/◌, ◌%◌, ◌==◌, Bool, true, false, ◌&&◌, if◌then◌else◌, nat_lt, List, [], ◌∷◌, map, length, slice_index, slice_index_or, ℤ, pos, Option, Some, None, Result, Ok, Err, find, zip, sum_by, count_by}
+use Rattle.std.specs.Prelude.{ℕ, suc, ◌+◌, ◌-◌, ◌*◌, ◌/◌, ◌%◌, ◌==◌, Bool, not, ◌&&◌, if◌then◌else◌, nat_lt, List, [], ◌∷◌, map, length, slice_index, slice_index_or, ℤ, pos, Option, Some, None, Result, Ok, Err, find, zip, sum_by, count_by}
 use Rattle.std.specs.List.{flat_map, range_with_len}
 use Rattle.mast_world.specs.declared.picture.Shape.{Shape}
 use Rattle.mast_world.specs.declared.picture.Band.{Band}
@@ -55,15 +55,16 @@ packets_read bytes head component (precinct ∷ precincts) at =
 
 -- ---- tile-parts (Annex A.4.2)
 
--- the next marker, if there is one byte of it, is judged before the part's length
+-- A marker that isn't there at all, or is another one, is refused at the place where the packets end, and so before the part's
+-- length. A marker of which one byte is there is refused behind that byte, and so after it.
 unfoldable pub tile_part_end : List ℕ → ℕ → ℕ → ℕ → ℕ → ℕ → Result ℕ ReadRefusal
 tile_part_end bytes component len start marker at =
-    if length bytes == suc at && not_len then Err (PartLength component len)
+    if length bytes == suc at && is_other_length then Err (PartLength component len)
     else on_ok (marker_step (marker_at bytes (λ m. m == marker) at)) (λ m.
-    if not_len then Err (PartLength component len) else Ok at)
+    if is_other_length then Err (PartLength component len) else Ok at)
   where
-    not_len : Bool
-    not_len = if start + len == at then false else true
+    is_other_length : Bool
+    is_other_length = not (start + len == at)
 
 -- behind the last part stands EOC, behind each other one SOT
 abbrev pub marker_behind : ℕ → ℕ
