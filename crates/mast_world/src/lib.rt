@@ -1,4 +1,5 @@
-//! The world around the engine: lists of bytes, devices, and what a device may do.
+//! The world around the engine: lists of bytes, devices and what a device may do, and the terms in which
+//! the codec is defined.
 #![tactic(auto)]
 
 mod failing;
@@ -8,6 +9,9 @@ mod list;
 mod mem_sink;
 mod mem_source;
 mod mem_volume;
+mod packet;
+mod picture;
+mod reading;
 mod sink;
 mod source;
 mod volume;
@@ -19,6 +23,9 @@ pub use list::{Bytes, List};
 pub use mem_sink::MemSink;
 pub use mem_source::{MemFile, MemSource};
 pub use mem_volume::MemVolume;
+pub use packet::{BandShape, HeadRefusal, PacketBand, PacketBlock, PacketRead};
+pub use picture::{Band, BandKind, Limits, Params, Shape, Task};
+pub use reading::{Coefficients, MainHead, MarkerRefusal, ReadRefusal};
 pub use sink::Sink;
 pub use source::Source;
 pub use volume::{FileId, Volume};

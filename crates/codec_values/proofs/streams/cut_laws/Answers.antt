@@ -1,0 +1,6 @@
+-- The law of the least cut.
+use Rattle.mast_world.proofs.CutLaws.{least_cut-is}
+use Rattle.codec_values.proofs.streams.cut_laws.Goals as goal
+
+pub returns : goal.returns
+returns c = least_cut-is

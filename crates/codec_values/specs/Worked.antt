@@ -1,0 +1,140 @@
+-- The inputs of worked values.
+use Rattle.std.specs.Prelude.{ℕ, Bool, true, false, List, [], ◌∷◌, map, ℤ, pos, negsuc, Result, Ok, Err}
+use Rattle.mast_world.specs.declared.picture.Shape.{Shape}
+use Rattle.mast_world.specs.declared.picture.Band.{Band}
+use Rattle.mast_world.specs.declared.picture.BandKind.{BandKind}
+use Rattle.mast_world.specs.declared.picture.BandKind.TheVariants.{LL}
+use Rattle.mast_world.specs.declared.packet.PacketBlock.{PacketBlock}
+use Rattle.mast_world.specs.declared.packet.PacketBand.{PacketBand}
+use Rattle.mast_world.specs.declared.packet.BandShape.{BandShape}
+use Rattle.mast_world.specs.declared.packet.HeadRefusal.{HeadRefusal}
+use Rattle.mast_world.specs.Bands.{resolution_bands}
+use Rattle.mast_world.specs.Precincts.{BlockArea, block_columns, block_rows, blocks_in, Precinct, packet_order}
+use Rattle.mast_world.specs.Codestream.{block_places}
+use Rattle.mast_world.specs.StreamReading.{read_block}
+use Rattle.mast_world.specs.Mq.{Decision}
+use Rattle.mast_world.specs.PacketHeader.{pass_bits, packed}
+use Rattle.mast_world.specs.PacketReading.{BitPlace, pass_count_read}
+use Rattle.mast_world.specs.BlockDecisions.{Block}
+
+-- ---- the arithmetic coder and code-blocks
+
+abbrev pub decision : ℕ → Bool → Decision
+decision context bit = record { context = context; bit = bit }
+
+abbrev pub bits_in : ℕ → List Bool → List Decision
+bits_in context bits = map (decision context) bits
+
+-- 0, 1 1 1 1 1 1 1 0 1 0 0, 0 0 0 0 0 0 0 0
+abbrev pub known_context_bits : List Bool
+known_context_bits =
+    false ∷ true ∷ true ∷ true ∷ true ∷ true ∷ true ∷ true ∷ false ∷ true ∷ false ∷ false
+    ∷ false ∷ false ∷ false ∷ false ∷ false ∷ false ∷ false ∷ false ∷ []
+
+abbrev pub one_sample : BandKind → ℤ → Block
+one_sample kind value = record { kind = kind; width = 1; height = 1; values = value ∷ [] }
+
+abbrev pub four_by_four : Block
+four_by_four = record {
+  kind = LL;
+  width = 4;
+  height = 4;
+  values =
+      negsuc 0 ∷ pos 0 ∷ pos 0 ∷ pos 0
+      ∷ pos 0 ∷ pos 0 ∷ pos 0 ∷ pos 0
+      ∷ pos 0 ∷ negsuc 0 ∷ pos 0 ∷ pos 0
+      ∷ pos 0 ∷ pos 0 ∷ pos 1 ∷ pos 0 ∷ [];
+}
+
+-- ---- packets
+
+abbrev pub included_block : PacketBlock
+included_block = record { included = true; zero_planes = 11; passes = 1; codeword = 0x03 ∷ [] }
+
+abbrev pub missing_block : PacketBlock
+missing_block = record { included = false; zero_planes = 0; passes = 0; codeword = [] }
+
+abbrev pub band_of_one : PacketBlock → PacketBand
+band_of_one block = record { columns = 1; rows = 1; blocks = block ∷ [] }
+
+abbrev pub three_bands : List PacketBand
+three_bands = band_of_one included_block ∷ band_of_one missing_block ∷ band_of_one missing_block ∷ []
+
+abbrev pub no_bands : List PacketBand
+no_bands = band_of_one missing_block ∷ band_of_one missing_block ∷ band_of_one missing_block ∷ []
+
+abbrev pub shape_of_planes : ℕ → BandShape
+shape_of_planes mb = record { columns = 1; rows = 1; mb = mb }
+
+abbrev pub three_shapes : List BandShape
+three_shapes = shape_of_planes 12 ∷ shape_of_planes 12 ∷ shape_of_planes 12 ∷ []
+
+-- what is read from the bits of n passes, and 0 where that is refused
+abbrev pub number_in : Result (ℕ × BitPlace) HeadRefusal → ℕ
+number_in (Ok r) = r.0
+number_in (Err e) = 0
+
+abbrev pub passes_back : ℕ → ℕ
+passes_back n = number_in (pass_count_read (packed (pass_bits n)) (record { next = 0; byte = 0; left = 0 }))
+
+-- ---- packets of a picture whose every code-block has its place in the sub-band for its codeword
+
+abbrev pub labelled_block : ℕ × ℕ → PacketBlock
+labelled_block place = record { included = true; zero_planes = 0; passes = 1; codeword = place.0 ∷ place.1 ∷ [] }
+
+abbrev pub labelled_band : Shape → ℕ → Band → PacketBand
+labelled_band shape number band =
+    let area = blocks_in shape band number in
+    record { columns = area.columns; rows = area.rows; blocks = map labelled_block (block_places area) }
+
+abbrev pub labelled_packet : Shape → Precinct → List PacketBand
+labelled_packet shape precinct = map (labelled_band shape precinct.number) (resolution_bands 0 precinct.resolution)
+
+abbrev pub labelled_packets : Shape → List (List PacketBand)
+labelled_packets shape = map (labelled_packet shape) (packet_order shape)
+
+-- what a reader finds at each place of a sub-band, and the places
+abbrev pub label_found : Shape → Band → ℕ × ℕ → List ℕ
+label_found shape band place = (read_block shape (labelled_packets shape) band place.0 place.1).codeword
+
+abbrev pub label_of : ℕ × ℕ → List ℕ
+label_of place = place.0 ∷ place.1 ∷ []
+
+abbrev pub whole_area : Shape → Band → BlockArea
+whole_area shape band = record { x = 0; y = 0; columns = block_columns shape band; rows = block_rows shape band }
+
+abbrev pub labels_found : Shape → Band → List (List ℕ)
+labels_found shape band = map (label_found shape band) (block_places (whole_area shape band))
+
+abbrev pub labels : Shape → Band → List (List ℕ)
+labels shape band = map label_of (block_places (whole_area shape band))
+
+abbrev pub wide : Shape
+wide = record { width = 600; height = 300 }
+
+-- ---- the smallest picture, all zero
+
+abbrev pub small : Shape
+small = record { width = 32; height = 32 }
+
+abbrev pub zero_stream : List ℕ
+zero_stream =
+    0xFF ∷ 0x4F ∷ 0xFF ∷ 0x51 ∷ 0x00 ∷ 0x2F ∷ 0x00 ∷ 0x03 ∷ 0x00 ∷ 0x00 ∷ 0x00 ∷ 0x20 ∷ 0x00 ∷ 0x00 ∷ 0x00
+    ∷ 0x20 ∷ 0x00 ∷ 0x00 ∷ 0x00 ∷ 0x00 ∷ 0x00 ∷ 0x00 ∷ 0x00 ∷ 0x00
+    ∷ 0x00 ∷ 0x00 ∷ 0x00 ∷ 0x20 ∷ 0x00 ∷ 0x00 ∷ 0x00 ∷ 0x20 ∷ 0x00 ∷ 0x00 ∷ 0x00 ∷ 0x00 ∷ 0x00 ∷ 0x00 ∷ 0x00
+    ∷ 0x00 ∷ 0x00 ∷ 0x03 ∷ 0x0B ∷ 0x01 ∷ 0x01 ∷ 0x0B ∷ 0x01 ∷ 0x01 ∷ 0x0B ∷ 0x01 ∷ 0x01
+    ∷ 0xFF ∷ 0x52 ∷ 0x00 ∷ 0x12 ∷ 0x01 ∷ 0x04 ∷ 0x00 ∷ 0x01 ∷ 0x01 ∷ 0x05 ∷ 0x03 ∷ 0x03 ∷ 0x00 ∷ 0x00 ∷ 0x77
+    ∷ 0x88 ∷ 0x88 ∷ 0x88 ∷ 0x88 ∷ 0x88
+    ∷ 0xFF ∷ 0x5C ∷ 0x00 ∷ 0x23 ∷ 0x22 ∷ 0x70 ∷ 0x00 ∷ 0x79 ∷ 0x00 ∷ 0x79 ∷ 0x00 ∷ 0x7A ∷ 0x00 ∷ 0x71 ∷ 0x00
+    ∷ 0x71 ∷ 0x00 ∷ 0x72 ∷ 0x00 ∷ 0x69 ∷ 0x00 ∷ 0x69 ∷ 0x00 ∷ 0x6A ∷ 0x00
+    ∷ 0x69 ∷ 0x00 ∷ 0x69 ∷ 0x00 ∷ 0x6A ∷ 0x00 ∷ 0x61 ∷ 0x00 ∷ 0x61 ∷ 0x00 ∷ 0x62 ∷ 0x00
+    ∷ 0xFF ∷ 0x55 ∷ 0x00 ∷ 0x13 ∷ 0x00 ∷ 0x50 ∷ 0x00 ∷ 0x00 ∷ 0x00 ∷ 0x00 ∷ 0x14 ∷ 0x00 ∷ 0x00 ∷ 0x00 ∷ 0x00
+    ∷ 0x14 ∷ 0x00 ∷ 0x00 ∷ 0x00 ∷ 0x00 ∷ 0x14
+    ∷ 0xFF ∷ 0x64 ∷ 0x00 ∷ 0x0C ∷ 0x00 ∷ 0x00 ∷ 0x43 ∷ 0x55 ∷ 0x54 ∷ 0x31 ∷ 0x00 ∷ 0x00 ∷ 0x00 ∷ 0x00
+    ∷ 0xFF ∷ 0x90 ∷ 0x00 ∷ 0x0A ∷ 0x00 ∷ 0x00 ∷ 0x00 ∷ 0x00 ∷ 0x00 ∷ 0x14 ∷ 0x00 ∷ 0x03 ∷ 0xFF ∷ 0x93 ∷ 0x00
+    ∷ 0x00 ∷ 0x00 ∷ 0x00 ∷ 0x00 ∷ 0x00
+    ∷ 0xFF ∷ 0x90 ∷ 0x00 ∷ 0x0A ∷ 0x00 ∷ 0x00 ∷ 0x00 ∷ 0x00 ∷ 0x00 ∷ 0x14 ∷ 0x01 ∷ 0x03 ∷ 0xFF ∷ 0x93 ∷ 0x00
+    ∷ 0x00 ∷ 0x00 ∷ 0x00 ∷ 0x00 ∷ 0x00
+    ∷ 0xFF ∷ 0x90 ∷ 0x00 ∷ 0x0A ∷ 0x00 ∷ 0x00 ∷ 0x00 ∷ 0x00 ∷ 0x00 ∷ 0x14 ∷ 0x02 ∷ 0x03 ∷ 0xFF ∷ 0x93 ∷ 0x00
+    ∷ 0x00 ∷ 0x00 ∷ 0x00 ∷ 0x00 ∷ 0x00
+    ∷ 0xFF ∷ 0xD9 ∷ []

@@ -1,0 +1,28 @@
+ghost use Rattle.std.specs.Prelude.{◌≡◌, ◌-◌, true, false, pos, negsuc, [], ◌∷◌, ◌++◌, map, replicate};
+ghost use Rattle.mast_world.specs.declared.picture.BandKind.TheVariants.{LL, HL, LH};
+ghost use Rattle.mast_world.specs.Mq.{codeword};
+ghost use Rattle.mast_world.specs.BlockDecisions.{plane_count, decisions, pass_count};
+ghost use Rattle.mast_world.specs.BlockReading.{block_read};
+ghost use Rattle.codec_values.specs.Worked.{decision, one_sample, four_by_four, known_context_bits, bits_in};
+
+/// The arithmetic coder on no decision, on one, and on bits that carry into the first byte.
+pub fn coder_values()
+    ensures none { codeword [] ≡ 0xFF ∷ 0x7F ∷ [] }
+    ensures one { codeword (decision 18 false ∷ []) ≡ 0x7F ∷ [] }
+    ensures carry { codeword (bits_in 18 known_context_bits) ≡ 0x01 ∷ 0x01 ∷ 0xFF ∷ 0x7F ∷ [] }
+{}
+
+/// Code-blocks of one sample and of four by four.
+pub fn block_values()
+    ensures one_plane { plane_count (one_sample LL (pos 1)) ≡ 1 }
+    ensures one_codeword { codeword (decisions (one_sample LL (pos 1)) 0) ≡ 0x03 ∷ [] }
+    ensures no_plane { plane_count (one_sample LL (pos 0)) ≡ 0 }
+    ensures no_decision { decisions (one_sample LL (pos 0)) 0 ≡ [] }
+    ensures full_planes { plane_count (one_sample HL (pos 32767)) ≡ 15 }
+    ensures full_passes { pass_count (plane_count (one_sample HL (pos 32767)) - 0) ≡ 43 }
+    ensures run { codeword (decisions four_by_four 0) ≡ 0x11 ∷ 0xE4 ∷ 0xB1 ∷ [] }
+    ensures run_read { block_read (record { kind = LL; width = 4; height = 4 }) 1 1 (0x11 ∷ 0xE4 ∷ 0xB1 ∷ [])
+        ≡ four_by_four.values }
+    ensures kept_planes { codeword (decisions (one_sample LH (pos 26)) 1) ≡ 0x01 ∷ 0x7F ∷ [] }
+    ensures kept_read { block_read (record { kind = LH; width = 1; height = 1 }) 5 10 (0x01 ∷ 0x7F ∷ []) ≡ pos 26 ∷ [] }
+{}

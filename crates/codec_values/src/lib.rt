@@ -1,0 +1,22 @@
+//! Worked values of the codec's definitions, each computed by the check, and laws that they meet.
+//! No code rests on this crate.
+#![tactic(auto)]
+
+mod bands;
+mod blocks;
+mod colour;
+mod packets;
+mod streams;
+mod transform;
+
+pub use bands::{
+    coefficient_laws, packet_order_laws, packet_orders, sub_band_laws, sub_band_values,
+};
+pub use blocks::{block_values, coder_values};
+pub use colour::{colour_laws, colour_values};
+pub use packets::{header_laws, header_values, packet_values, tag_tree_values};
+pub use streams::{
+    block_place_values, cut_laws, main_header_laws, reading_values, refusal_values,
+    zero_stream_values,
+};
+pub use transform::{component_values, lifting_values, quantiser_laws, quantiser_values};

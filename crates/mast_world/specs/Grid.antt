@@ -1,0 +1,39 @@
+-- Grids: lists of rows, of which each has as many items.
+use Rattle.std.specs.Prelude.{ℕ, zero, suc, List, [], ◌∷◌, ◌++◌, map, length, slice_index_or, slice_set, take, drop}
+use Rattle.std.specs.List.{flat_map}
+
+-- the rows of items in raster order, and the items of rows
+unfoldable pub grid_of : {A : Type 0} → ℕ → ℕ → List A → List (List A)
+grid_of columns zero items = []
+grid_of columns (suc rows) items = take columns items ∷ grid_of columns rows (drop columns items)
+
+abbrev pub items_of : {A : Type 0} → List (List A) → List A
+items_of grid = flat_map (λ row. row) grid
+
+-- the item in column x of row y, and the grid with another one there
+abbrev pub grid_item : {A : Type 0} → A → List (List A) → ℕ → ℕ → A
+grid_item outside grid x y = slice_index_or (slice_index_or grid y []) x outside
+
+abbrev pub with_grid_item : {A : Type 0} → List (List A) → ℕ → ℕ → A → List (List A)
+with_grid_item grid x y item = slice_set grid y (slice_set (slice_index_or grid y []) x item)
+
+-- each item in front of the row beside it
+abbrev pub in_front : {A : Type 0} → List A → List (List A) → List (List A)
+in_front [] rows = []
+in_front (x ∷ xs) [] = (x ∷ []) ∷ in_front xs []
+in_front (x ∷ xs) (row ∷ rows) = (x ∷ row) ∷ in_front xs rows
+
+-- the columns of a grid
+unfoldable pub columns_of : {A : Type 0} → List (List A) → List (List A)
+columns_of [] = []
+columns_of (row ∷ rows) = in_front row (columns_of rows)
+
+-- so many columns and rows, from column x and row y on
+abbrev pub part_of : {A : Type 0} → ℕ → ℕ → ℕ → ℕ → List (List A) → List (List A)
+part_of x y columns rows grid = map (λ row. take columns (drop x row)) (take rows (drop y grid))
+
+-- the grid with another one in its upper left corner
+abbrev pub with_corner : {A : Type 0} → List (List A) → List (List A) → List (List A)
+with_corner [] grid = grid
+with_corner (c ∷ corner) [] = []
+with_corner (c ∷ corner) (row ∷ grid) = (c ++ drop (length c) row) ∷ with_corner corner grid
