@@ -11,3 +11,6 @@ mod words;
 pub use make::run_make;
 pub use status::{BadWhy, Status};
 pub use words::out_name;
+
+#[cfg(test)]
+mod tests;

@@ -8,3 +8,6 @@ mod std_sink;
 pub use folder_source::FolderSource;
 pub use folder_volume::FolderVolume;
 pub use std_sink::StdSink;
+
+#[cfg(test)]
+mod tests;

@@ -29,3 +29,6 @@ pub use reading::{Coefficients, MainHead, MarkerRefusal, ReadRefusal};
 pub use sink::Sink;
 pub use source::Source;
 pub use volume::{FileId, Volume};
+
+#[cfg(test)]
+mod tests;
