@@ -6,7 +6,7 @@ use Rattle.std.specs.Str.{bytes_eq, is_utf8}
 use Rattle.serde_json.specs.Data.{Data}
 use Rattle.serde_json.specs.Find.{get}
 use Rattle.serde_json.specs.Read.{read}
-use Rattle.film_project.specs.Members.{number_in, text_in, only_in, is_number, is_text}
+use Rattle.film_project.specs.FirstMembers.{number_in, text_in, only_in, is_number, is_text}
 use Rattle.film_project.specs.declared.first.First.{First}
 
 -- a letter, a digit or one of `.`, `_`, `-` and `/`

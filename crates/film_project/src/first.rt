@@ -4,7 +4,7 @@ ghost use Rattle.serde_json.specs.View.{view};
 ghost use Rattle.film_project.specs.First.{is_file_byte, has_parent_part, is_file_name, is_whole_clip, has_form, first_in, json_of, first_of};
 ghost use Rattle.film_project.specs.declared.first.FirstRefusal.TheVariants.{NoMemory};
 
-use crate::members::{is_number, is_text, number_in, only_in, text_in};
+use crate::first_members::{is_number, is_text, number_in, only_in, text_in};
 use mast_world::Bytes;
 use serde_json::Value;
 use std::alloc::{AllocError, Global};

@@ -2,6 +2,6 @@
 #![tactic(auto)]
 
 mod first;
-mod members;
+mod first_members;
 
 pub use first::{First, FirstRefusal, read_first};

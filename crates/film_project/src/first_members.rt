@@ -1,6 +1,6 @@
 ghost use Rattle.std.specs.Prelude.{◌≡◌, option_map};
 ghost use Rattle.serde_json.specs.View.{view, items_view};
-ghost use Rattle.film_project.specs.Members.{number_in, text_in, only_item, only_in, is_number, is_text};
+ghost use Rattle.film_project.specs.FirstMembers.{number_in, text_in, only_item, only_in, is_number, is_text};
 
 use serde_json::Value;
 
