@@ -1,4 +1,9 @@
 pub mod Names
 pub mod Texts
 pub mod Answers
+pub mod Facts
 pub mod Members
+pub mod Objects
+pub mod Accepts
+pub mod Fits
+pub mod Plain

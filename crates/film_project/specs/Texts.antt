@@ -60,6 +60,12 @@ least_length AssetKind = 0
 least_length File = 1
 least_length AnyText = 0
 
+-- a path has `/` between its parts; it does not begin with one, and no part is `..`
+abbrev pub offends_file : List ℕ → ℕ → Bool
+offends_file s i =
+    nat_le 200 i || not (is_name_byte (slice_index s i) || (slice_index s i == 47))
+    || ((i == 0) && (slice_index s i == 47)) || begins_dots s i
+
 -- the byte at i may not stand there
 abbrev pub offends : TextRule → List ℕ → ℕ → Bool
 offends Title s i = nat_le 100 i || not (is_printable (slice_index s i))
@@ -68,9 +74,7 @@ offends Issued s i = nat_le 19 i || not (fits_date i (slice_index s i))
 offends Namespace s i = nat_le 36 i || not (fits_uuid i (slice_index s i))
 offends Id s i = nat_le 40 i || not (is_name_byte (slice_index s i))
 offends AssetKind s i = false
-offends File s i =
-    nat_le 200 i || not (is_name_byte (slice_index s i) || (slice_index s i == 47))
-    || ((i == 0) && (slice_index s i == 47)) || begins_dots s i
+offends File s i = offends_file s i
 offends AnyText s i = false
 
 -- the first of n places from i on that passes the test
@@ -102,14 +106,17 @@ date_place s =
     else if is_ok (parse_datetime s) then None
     else Some 0
 
+abbrev pub word_place : Bool → Option ℕ
+word_place known = if known then None else Some 0
+
 -- what is asked of a text whose bytes and length are right
 abbrev pub meaning_place : TextRule → List ℕ → Option ℕ
 meaning_place Title s = None
-meaning_place ContentKind s = if is_one_of content_kinds s then None else Some 0
+meaning_place ContentKind s = word_place (is_one_of content_kinds s)
 meaning_place Issued s = date_place s
 meaning_place Namespace s = None
 meaning_place Id s = None
-meaning_place AssetKind s = if is_one_of asset_kinds s then None else Some 0
+meaning_place AssetKind s = word_place (is_one_of asset_kinds s)
 meaning_place File s = None
 meaning_place AnyText s = None
 

@@ -1,0 +1,106 @@
+-- The objects of a project file: their tables.
+use Rattle.std.specs.Prelude.{ℕ, ◌-◌, List, [], ◌∷◌, ◌++◌, map, codes, Bool, true, false, not, if◌then◌else◌, Option, Some, None}
+use Rattle.std.specs.Option.{option_or}
+use Rattle.std.specs.Str.{bytes_eq}
+use Rattle.serde_json.specs.Data.{Data, Members, no_members, member}
+use Rattle.serde_json.specs.Find.{as_object}
+use Rattle.film_project.specs.Names.{object_name, member_name}
+use Rattle.film_project.specs.Texts.{is_one_of}
+use Rattle.film_project.specs.Members.{Member, Kind, text, number, frame_rate, frame_count, objects, gains, members_fault, text_in, number_in}
+use Rattle.film_project.specs.declared.place.Place.{Place}
+use Rattle.film_project.specs.declared.texts.TextRule.TheVariants.{Title, ContentKind, Issued, Namespace, Id, AssetKind, File, AnyText}
+use Rattle.film_project.specs.declared.refusal.ProjectRefusal.{ProjectRefusal}
+use Rattle.film_project.specs.declared.refusal.ProjectRefusal.TheVariants.{NotObject, UnknownMember}
+
+-- ---- the tables
+
+abbrev pub required : List ℕ → Kind → Member
+required name kind = record { name = name; optional = false; kind = kind }
+
+abbrev pub optional : List ℕ → Kind → Member
+optional name kind = record { name = name; optional = true; kind = kind }
+
+abbrev pub title_members : List Member
+title_members =
+    required (codes "title") (text Title)
+    ∷ required (codes "kind") (text ContentKind)
+    ∷ required (codes "issued") (text Issued)
+    ∷ required (codes "namespace") (text Namespace)
+    ∷ []
+
+abbrev pub format_members : List Member
+format_members =
+    required (codes "width") (number 32 2048)
+    ∷ required (codes "height") (number 32 1080)
+    ∷ required (codes "fps") frame_rate
+    ∷ required (codes "rate") (number 10 250)
+    ∷ required (codes "power") (number 11 13)
+    ∷ required (codes "channels") (number 0 16)
+    ∷ required (codes "frames") frame_count
+    ∷ []
+
+abbrev pub list_members : List Member
+list_members =
+    required (codes "assets") objects
+    ∷ required (codes "picture") objects
+    ∷ required (codes "sound") objects
+    ∷ []
+
+abbrev pub project_members : List Member
+project_members = title_members ++ (format_members ++ list_members)
+
+-- channels of sound have to be there; elsewhere they may be absent or 0
+abbrev pub channel_member : Bool → Member
+channel_member true = required (codes "channels") (number 1 16)
+channel_member false = optional (codes "channels") (number 0 0)
+
+abbrev pub is_sound : Data → Bool
+is_sound d = bytes_eq (text_in (codes "kind") d) (codes "pcm24")
+
+abbrev pub asset_members : Data → List Member
+asset_members d =
+    required (codes "id") (text Id)
+    ∷ required (codes "kind") (text AssetKind)
+    ∷ required (codes "file") (text File)
+    ∷ channel_member (is_sound d)
+    ∷ []
+
+-- a clip ends within the frames
+abbrev pub greatest_count : ℕ → Data → ℕ
+greatest_count frames d = frames - number_in (codes "at") 0 d
+
+abbrev pub picture_members : ℕ → Data → List Member
+picture_members frames d =
+    required (codes "asset") (text AnyText)
+    ∷ required (codes "at") (number 0 431999)
+    ∷ required (codes "from") (number 0 999999)
+    ∷ required (codes "count") (number 1 (greatest_count frames d))
+    ∷ optional (codes "hold") (number 1 100)
+    ∷ []
+
+abbrev pub sound_members : ℕ → ℕ → ℕ → Data → List Member
+sound_members frames inputs outputs d =
+    required (codes "asset") (text AnyText)
+    ∷ required (codes "at") (number 0 431999)
+    ∷ required (codes "from") (number 0 999999)
+    ∷ required (codes "count") (number 1 (greatest_count frames d))
+    ∷ required (codes "gains") (gains inputs outputs)
+    ∷ []
+
+-- ---- an object against its table
+
+abbrev pub names_of : List Member → List (List ℕ)
+names_of table = map (λ m. m.name) table
+
+-- Members stand in the order of their names, so that the first unknown one is the least.
+abbrev pub unknown_fault : Place → List (List ℕ) → Members → Option ProjectRefusal
+unknown_fault place names no_members = None
+unknown_fault place names (member name d ms) =
+    if is_one_of names name then unknown_fault place names ms else Some (UnknownMember (member_name place name))
+
+abbrev pub shape_fault : Place → List (List ℕ) → Option Members → Option ProjectRefusal
+shape_fault place names None = Some (NotObject (object_name place))
+shape_fault place names (Some ms) = unknown_fault place names ms
+
+abbrev pub object_fault : Place → List Member → Data → Option ProjectRefusal
+object_fault place table d = option_or (shape_fault place (names_of table) (as_object d)) (members_fault place d table)
