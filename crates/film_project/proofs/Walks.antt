@@ -1,7 +1,10 @@
 -- Steps of walks over lists and places.
-use Rattle.std.proofs.Common.{◌≡◌, ℕ, zero, suc, ◌+◌, ◌-◌, ◌<◌, ◌≤◌, List, [], ◌∷◌, Bool, true, false, Option, Some, None, refl, ap, sym, ◌∙◌, arith, sub-one, map, option_map, length, drop, get_or}
+use Rattle.std.proofs.Common.{◌++◌, append_assoc, append-nil, ◌≡◌, ℕ, zero, suc, ◌+◌, ◌-◌, ◌<◌, ◌≤◌, List, [], ◌∷◌, Bool, true, false, Option, Some, None, refl, ap, sym, ◌∙◌, arith, sub-one, map, option_map, length, drop, get_or}
 use Rattle.film_project.specs.Texts.{first_place}
-use Rattle.film_project.specs.Members.{list_of}
+use Rattle.std.specs.Option.{option_or}
+use Rattle.std.proofs.lemmas.List.{map-append, drop_more}
+use Rattle.film_project.specs.Members.{list_of, first_of}
+use Rattle.film_project.specs.declared.refusal.ProjectRefusal.{ProjectRefusal}
 use Rattle.serde_json.specs.Data.{Data, Items, no_items, item}
 use Rattle.serde_json.specs.View.{view, items_view}
 use Rattle.serde_json.specs.declared.value.Value.{Value}
@@ -28,3 +31,37 @@ first_place-here test i n h e =
 pub list_of-items_view : (vs : List Value) → list_of (items_view vs) ≡ map view vs
 list_of-items_view [] = refl
 list_of-items_view (v ∷ vs) = ap (λ ds. view v ∷ ds) (list_of-items_view vs)
+
+-- the item at i, and those behind it
+pub here_at : {X : Type 0} (xs : List X) (i : ℕ) (x : X) → i < length xs → x ≡ get_or xs i x → drop i xs ≡ x ∷ drop (i + 1) xs
+here_at xs i x h e = drop_more xs i x h ∙ ap (λ y. y ∷ drop (i + 1) xs) (sym e)
+
+-- ---- the first fault of a list
+
+pub first_of-next : {X : Type 0} (fault : ℕ → X → Option ProjectRefusal) (i : ℕ) (xs : List X) (x : X) (rest : List X)
+    → xs ≡ x ∷ rest → fault i x ≡ None → first_of fault i xs ≡ first_of fault (i + 1) rest
+first_of-next fault i xs x rest here e = rw (here, e)
+
+pub first_of-here : {X : Type 0} (fault : ℕ → X → Option ProjectRefusal) (i : ℕ) (xs : List X) (x : X) (rest : List X) (r : ProjectRefusal)
+    → xs ≡ x ∷ rest → fault i x ≡ Some r → first_of fault i xs ≡ Some r
+first_of-here fault i xs x rest r here e = rw (here, e)
+
+-- ---- what a loop has gathered, and what it still has to
+
+pub gather-next : {A B X : Type 0} (f : A → B) (g : X → B) (done : List A) (a : A) (xs : List X) (x : X) (rest : List X) (all : List B)
+    → xs ≡ x ∷ rest → f a ≡ g x → map f done ++ map g xs ≡ all → map f (done ++ a ∷ []) ++ map g rest ≡ all
+gather-next f g done a xs x rest all here same e =
+    ap (λ ys. ys ++ map g rest) (map-append f done (a ∷ [])) ∙ append_assoc (map f done) (f a ∷ []) (map g rest)
+    ∙ ap (λ b. map f done ++ b ∷ map g rest) same ∙ ap (λ ys. map f done ++ map g ys) (sym here) ∙ e
+
+pub gather-end : {A B X : Type 0} (f : A → B) (g : X → B) (done : List A) (xs : List X) (all : List B)
+    → xs ≡ [] → map f done ++ map g xs ≡ all → map f done ≡ all
+gather-end f g done xs all none e = sym (append-nil (map f done)) ∙ ap (λ ys. map f done ++ map g ys) (sym none) ∙ e
+
+-- ---- one fault after another
+
+pub later : (f g h : Option ProjectRefusal) → f ≡ None → g ≡ h → option_or f g ≡ h
+later f g h none e = rw none e
+
+pub sooner : (f g : Option ProjectRefusal) (r : ProjectRefusal) → f ≡ Some r → option_or f g ≡ Some r
+sooner f g r e = rw e

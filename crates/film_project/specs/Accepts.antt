@@ -3,32 +3,24 @@ use Rattle.std.specs.Prelude.{ℕ, ◌+◌, List, [], ◌∷◌, ◌++◌, map, 
 use Rattle.std.specs.Option.{option_or}
 use Rattle.std.specs.Str.{bytes_eq, is_utf8}
 use Rattle.serde_json.specs.Data.{Data}
+use Rattle.serde_json.specs.Find.{as_object}
 use Rattle.serde_json.specs.Read.{read}
 use Rattle.uuid.specs.Text.{parsed}
 use Rattle.film_project.specs.Facts.{AssetFacts, PictureFacts, SoundFacts, ProjectFacts}
 use Rattle.film_project.specs.Members.{first_of, number_in, text_in, list_in, value_or, gain_of}
 use Rattle.film_project.specs.Names.{member_name}
-use Rattle.film_project.specs.Objects.{project_members, asset_members, picture_members, sound_members, object_fault, is_sound}
+use Rattle.film_project.specs.Objects.{project_members, asset_members, picture_members, sound_members, object_fault, shape_fault, names_of, kind_in, carries_sound}
 use Rattle.film_project.specs.Texts.{is_one_of}
-use Rattle.film_project.specs.declared.asset.AssetKind.{AssetKind}
-use Rattle.film_project.specs.declared.asset.AssetKind.TheVariants.{Rgb48, Ppm, J2c, Pcm24}
 use Rattle.film_project.specs.declared.place.Place.TheVariants.{Project, Asset, Picture, Sound}
 use Rattle.film_project.specs.declared.refusal.ProjectRefusal.{ProjectRefusal}
 use Rattle.film_project.specs.declared.refusal.ProjectRefusal.TheVariants.{NotJson, DoubleAsset, NoSuchAsset, FileTooLong}
 
 -- ---- assets
 
-abbrev pub asset_kind : List ℕ → AssetKind
-asset_kind word =
-    if bytes_eq word (codes "pcm24") then Pcm24
-    else if bytes_eq word (codes "j2c") then J2c
-    else if bytes_eq word (codes "ppm") then Ppm
-    else Rgb48
-
 abbrev pub asset_in : Data → AssetFacts
 asset_in d = record {
   id = text_in (codes "id") d;
-  kind = asset_kind (text_in (codes "kind") d);
+  kind = kind_in d;
   file = text_in (codes "file") d;
   channels = number_in (codes "channels") 0 d;
 }
@@ -49,12 +41,6 @@ assets_fault i seen (d ∷ ds) = option_or (asset_fault i seen d) (assets_fault 
 abbrev pub find_asset : List ℕ → ℕ → List AssetFacts → Option (ℕ × AssetFacts)
 find_asset id i [] = None
 find_asset id i (a ∷ rest) = if bytes_eq a.id id then Some (i, a) else find_asset id (i + 1) rest
-
-abbrev pub carries_sound : AssetKind → Bool
-carries_sound Rgb48 = false
-carries_sound Ppm = false
-carries_sound J2c = false
-carries_sound Pcm24 = true
 
 abbrev pub found_fault : List ℕ → Bool → Option (ℕ × AssetFacts) → Option ProjectRefusal
 found_fault name sound None = Some (NoSuchAsset name)
@@ -107,6 +93,12 @@ sound_in assets d = record {
 abbrev pub assets_in : Data → List AssetFacts
 assets_in d = map asset_in (list_in (codes "assets") d)
 
+abbrev pub namespace_in : Data → List ℕ
+namespace_in d = value_or [] (parsed (text_in (codes "namespace") d))
+
+abbrev pub top_shape_fault : Data → Option ProjectRefusal
+top_shape_fault d = shape_fault Project (is_one_of (names_of project_members)) (as_object d)
+
 abbrev pub project_fault : Data → Option ProjectRefusal
 project_fault d =
     option_or (object_fault Project project_members d)
@@ -119,7 +111,7 @@ project_in d = record {
   title = text_in (codes "title") d;
   kind = text_in (codes "kind") d;
   issued = text_in (codes "issued") d;
-  namespace = value_or [] (parsed (text_in (codes "namespace") d));
+  namespace = namespace_in d;
   width = number_in (codes "width") 0 d;
   height = number_in (codes "height") 0 d;
   fps = number_in (codes "fps") 0 d;

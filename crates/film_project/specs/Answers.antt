@@ -35,3 +35,8 @@ FindsMember (Err e) place name d = e ≢ NoMemory → (get name d ≡ None) × (
 abbrev pub AsksWhole : Result ℕ ProjectRefusal → Place → List ℕ → Data → Type 0
 AsksWhole (Ok n) place name d = as_whole d ≡ Some n
 AsksWhole (Err e) place name d = e ≢ NoMemory → (as_whole d ≡ None) × (e ≡ WrongKind (member_name place name))
+
+-- the answer of the definition, unless memory ran out
+abbrev pub IsAnswer : {T U : Type 0} → (T → U) → Result T ProjectRefusal → Result U ProjectRefusal → Type 0
+IsAnswer seen (Ok x) wanted = Ok (seen x) ≡ wanted
+IsAnswer seen (Err e) wanted = e ≢ NoMemory → Err e ≡ wanted

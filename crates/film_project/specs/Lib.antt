@@ -7,3 +7,4 @@ pub mod Objects
 pub mod Accepts
 pub mod Fits
 pub mod Plain
+pub mod Gains

@@ -1,5 +1,5 @@
 -- Members of an object: what one has to be, and what is wrong with it.
-use Rattle.std.specs.Prelude.{ℕ, ◌+◌, List, [], ◌∷◌, length, Bool, true, false, ◌&&◌, ◌||◌, ◌==◌, nat_le, nat_lt, if◌then◌else◌, Option, Some, None, is_some, option_map, option_and_then}
+use Rattle.std.specs.Prelude.{ℕ, ◌+◌, List, [], ◌∷◌, map, length, Bool, true, false, ◌&&◌, ◌||◌, ◌==◌, nat_le, nat_lt, if◌then◌else◌, Option, Some, None, is_some, option_map, option_and_then}
 use Rattle.std.specs.Option.{option_or}
 use Rattle.serde_json.specs.Data.{Data, Items, no_items, item}
 use Rattle.serde_json.specs.Find.{get, as_number, as_u64, as_str, as_array}
@@ -81,9 +81,9 @@ gain_of d = value_or no_gain (as_gain d)
 -- ---- faults
 
 -- the first fault of a list's items, which are counted from i
-abbrev pub first_of : (ℕ → Data → Option ProjectRefusal) → ℕ → List Data → Option ProjectRefusal
+abbrev pub first_of : {X : Type 0} → (ℕ → X → Option ProjectRefusal) → ℕ → List X → Option ProjectRefusal
 first_of fault i [] = None
-first_of fault i (d ∷ ds) = option_or (fault i d) (first_of fault (i + 1) ds)
+first_of fault i (x ∷ xs) = option_or (fault i x) (first_of fault (i + 1) xs)
 
 abbrev pub text_fault : List ℕ → TextRule → Option (List ℕ) → Option ProjectRefusal
 text_fault name rule None = Some (WrongKind name)
@@ -120,17 +120,17 @@ abbrev pub gain_kind_fault : List ℕ → ℕ → Data → Option ProjectRefusal
 gain_kind_fault name i d = if is_some (as_gain d) then None else Some (WrongKind (item_name name i))
 
 -- and each has to be in its range
-abbrev pub gain_range_fault : List ℕ → ℕ → ℕ → GainFacts → Option ProjectRefusal
-gain_range_fault name inputs outputs g =
-    option_or (range_fault name (nat_lt g.from inputs) g.from)
-    (option_or (range_fault name (nat_lt g.to outputs) g.to) (range_fault name (nat_le g.gain 262144) g.gain))
+abbrev pub gain_range_fault : List ℕ → ℕ → ℕ → ℕ → GainFacts → Option ProjectRefusal
+gain_range_fault name inputs outputs i g =
+    option_or (range_fault (item_name name i) (nat_lt g.from inputs) g.from)
+    (option_or (range_fault (item_name name i) (nat_lt g.to outputs) g.to) (range_fault (item_name name i) (nat_le g.gain 262144) g.gain))
 
 abbrev pub gains_fault : List ℕ → ℕ → ℕ → Option (List Data) → Option ProjectRefusal
 gains_fault name inputs outputs None = Some (WrongKind name)
 gains_fault name inputs outputs (Some ds) =
     option_or (first_of (gain_kind_fault name) 0 ds)
     (option_or (range_fault name (nat_le (length ds) 256) (length ds))
-    (first_of (λ i d. gain_range_fault (item_name name i) inputs outputs (gain_of d)) 0 ds))
+    (first_of (gain_range_fault name inputs outputs) 0 (map gain_of ds)))
 
 abbrev pub value_fault : List ℕ → Kind → Data → Option ProjectRefusal
 value_fault name (text rule) d = text_fault name rule (as_str d)

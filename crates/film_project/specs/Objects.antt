@@ -7,8 +7,10 @@ use Rattle.serde_json.specs.Find.{as_object}
 use Rattle.film_project.specs.Names.{object_name, member_name}
 use Rattle.film_project.specs.Texts.{is_one_of}
 use Rattle.film_project.specs.Members.{Member, Kind, text, number, frame_rate, frame_count, objects, gains, members_fault, text_in, number_in}
+use Rattle.film_project.specs.declared.asset.AssetKind.{AssetKind}
+use Rattle.film_project.specs.declared.asset.AssetKind.TheVariants.{Rgb48, Ppm, J2c, Pcm24}
 use Rattle.film_project.specs.declared.place.Place.{Place}
-use Rattle.film_project.specs.declared.texts.TextRule.TheVariants.{Title, ContentKind, Issued, Namespace, Id, AssetKind, File, AnyText}
+use Rattle.film_project.specs.declared.texts.TextRule.TheVariants as rule
 use Rattle.film_project.specs.declared.refusal.ProjectRefusal.{ProjectRefusal}
 use Rattle.film_project.specs.declared.refusal.ProjectRefusal.TheVariants.{NotObject, UnknownMember}
 
@@ -22,10 +24,10 @@ optional name kind = record { name = name; optional = true; kind = kind }
 
 abbrev pub title_members : List Member
 title_members =
-    required (codes "title") (text Title)
-    ∷ required (codes "kind") (text ContentKind)
-    ∷ required (codes "issued") (text Issued)
-    ∷ required (codes "namespace") (text Namespace)
+    required (codes "title") (text rule.Title)
+    ∷ required (codes "kind") (text rule.ContentKind)
+    ∷ required (codes "issued") (text rule.Issued)
+    ∷ required (codes "namespace") (text rule.Namespace)
     ∷ []
 
 abbrev pub format_members : List Member
@@ -54,15 +56,28 @@ abbrev pub channel_member : Bool → Member
 channel_member true = required (codes "channels") (number 1 16)
 channel_member false = optional (codes "channels") (number 0 0)
 
-abbrev pub is_sound : Data → Bool
-is_sound d = bytes_eq (text_in (codes "kind") d) (codes "pcm24")
+abbrev pub asset_kind : List ℕ → AssetKind
+asset_kind word =
+    if bytes_eq word (codes "pcm24") then Pcm24
+    else if bytes_eq word (codes "j2c") then J2c
+    else if bytes_eq word (codes "ppm") then Ppm
+    else Rgb48
+
+abbrev pub carries_sound : AssetKind → Bool
+carries_sound Rgb48 = false
+carries_sound Ppm = false
+carries_sound J2c = false
+carries_sound Pcm24 = true
+
+abbrev pub kind_in : Data → AssetKind
+kind_in d = asset_kind (text_in (codes "kind") d)
 
 abbrev pub asset_members : Data → List Member
 asset_members d =
-    required (codes "id") (text Id)
-    ∷ required (codes "kind") (text AssetKind)
-    ∷ required (codes "file") (text File)
-    ∷ channel_member (is_sound d)
+    required (codes "id") (text rule.Id)
+    ∷ required (codes "kind") (text rule.AssetKind)
+    ∷ required (codes "file") (text rule.File)
+    ∷ channel_member (carries_sound (kind_in d))
     ∷ []
 
 -- a clip ends within the frames
@@ -71,7 +86,7 @@ greatest_count frames d = frames - number_in (codes "at") 0 d
 
 abbrev pub picture_members : ℕ → Data → List Member
 picture_members frames d =
-    required (codes "asset") (text AnyText)
+    required (codes "asset") (text rule.AnyText)
     ∷ required (codes "at") (number 0 431999)
     ∷ required (codes "from") (number 0 999999)
     ∷ required (codes "count") (number 1 (greatest_count frames d))
@@ -80,7 +95,7 @@ picture_members frames d =
 
 abbrev pub sound_members : ℕ → ℕ → ℕ → Data → List Member
 sound_members frames inputs outputs d =
-    required (codes "asset") (text AnyText)
+    required (codes "asset") (text rule.AnyText)
     ∷ required (codes "at") (number 0 431999)
     ∷ required (codes "from") (number 0 999999)
     ∷ required (codes "count") (number 1 (greatest_count frames d))
@@ -93,14 +108,15 @@ abbrev pub names_of : List Member → List (List ℕ)
 names_of table = map (λ m. m.name) table
 
 -- Members stand in the order of their names, so that the first unknown one is the least.
-abbrev pub unknown_fault : Place → List (List ℕ) → Members → Option ProjectRefusal
-unknown_fault place names no_members = None
-unknown_fault place names (member name d ms) =
-    if is_one_of names name then unknown_fault place names ms else Some (UnknownMember (member_name place name))
+abbrev pub unknown_fault : Place → (List ℕ → Bool) → Members → Option ProjectRefusal
+unknown_fault place known no_members = None
+unknown_fault place known (member name d ms) =
+    if known name then unknown_fault place known ms else Some (UnknownMember (member_name place name))
 
-abbrev pub shape_fault : Place → List (List ℕ) → Option Members → Option ProjectRefusal
-shape_fault place names None = Some (NotObject (object_name place))
-shape_fault place names (Some ms) = unknown_fault place names ms
+abbrev pub shape_fault : Place → (List ℕ → Bool) → Option Members → Option ProjectRefusal
+shape_fault place known None = Some (NotObject (object_name place))
+shape_fault place known (Some ms) = unknown_fault place known ms
 
 abbrev pub object_fault : Place → List Member → Data → Option ProjectRefusal
-object_fault place table d = option_or (shape_fault place (names_of table) (as_object d)) (members_fault place d table)
+object_fault place table d =
+    option_or (shape_fault place (is_one_of (names_of table)) (as_object d)) (members_fault place d table)

@@ -2,21 +2,21 @@
 #![tactic(auto)]
 
 mod asset;
-
+mod assets;
 mod clip;
-
-
+mod clips;
+mod gains;
 mod member;
-
+mod object;
 mod place;
 mod project;
-
+mod read;
 mod refusal;
 mod texts;
 
 pub use asset::{Asset, AssetKind};
 pub use clip::{Gain, PictureClip, SoundClip};
 pub use project::Project;
-
+pub use read::read_project;
 pub use refusal::ProjectRefusal;
 pub use texts::TextRule;

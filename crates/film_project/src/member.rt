@@ -79,7 +79,8 @@ fn read_whole(
     }
 }
 
-fn out_of_range(alloc: Global, place: Place, member: &str, value: u64) -> ProjectRefusal
+/// A number, or a list's length, out of its range.
+pub(crate) fn out_of_range(alloc: Global, place: Place, member: &str, value: u64) -> ProjectRefusal
     ensures { result ≢ NoMemory → result ≡ OutOfRange (member_name place member.now) value }
 {
     match name_member(alloc, place, member) {
