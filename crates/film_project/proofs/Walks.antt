@@ -1,13 +1,20 @@
 -- Steps of walks over lists and places.
-use Rattle.std.proofs.Common.{◌++◌, append_assoc, append-nil, ◌≡◌, ℕ, zero, suc, ◌+◌, ◌-◌, ◌<◌, ◌≤◌, List, [], ◌∷◌, Bool, true, false, Option, Some, None, refl, ap, sym, ◌∙◌, arith, sub-one, map, option_map, length, drop, get_or}
+use Rattle.std.proofs.Common.{String, Global, string_bytes, ◌++◌, append_assoc, append-nil, ◌≡◌, ℕ, zero, suc, ◌+◌, ◌-◌, ◌<◌, ◌≤◌, List, [], ◌∷◌, Bool, true, false, Option, Some, None, refl, ap, sym, ◌∙◌, arith, sub-one, map, option_map, length, drop, get_or}
 use Rattle.film_project.specs.Texts.{first_place}
 use Rattle.std.specs.Option.{option_or}
 use Rattle.std.proofs.lemmas.List.{map-append, drop_more}
-use Rattle.film_project.specs.Members.{list_of, first_of}
+use Rattle.film_project.specs.Members.{list_of, first_of, Member, member_fault, members_fault}
+use Rattle.film_project.specs.Names.{member_name}
+use Rattle.film_project.specs.Objects.{unknown_fault}
+use Rattle.film_project.specs.declared.place.Place.{Place}
+use Rattle.film_project.specs.declared.refusal.ProjectRefusal.TheVariants.{UnknownMember}
 use Rattle.film_project.specs.declared.refusal.ProjectRefusal.{ProjectRefusal}
 use Rattle.serde_json.specs.Data.{Data, Items, no_items, item}
-use Rattle.serde_json.specs.View.{view, items_view}
+use Rattle.serde_json.specs.View.{view, items_view, members_view}
 use Rattle.serde_json.specs.declared.value.Value.{Value}
+
+abbrev pub Entry : Type 0
+Entry = String Global × Value
 
 passed_by : (test : ℕ → Bool) (i k : ℕ) → test i ≡ false → first_place test i (suc k) ≡ first_place test (i + 1) k
 passed_by test i k e = rw e
@@ -35,6 +42,10 @@ list_of-items_view (v ∷ vs) = ap (λ ds. view v ∷ ds) (list_of-items_view vs
 -- the item at i, and those behind it
 pub here_at : {X : Type 0} (xs : List X) (i : ℕ) (x : X) → i < length xs → x ≡ get_or xs i x → drop i xs ≡ x ∷ drop (i + 1) xs
 here_at xs i x h e = drop_more xs i x h ∙ ap (λ y. y ∷ drop (i + 1) xs) (sym e)
+
+either_assoc : (f g h : Option ProjectRefusal) → option_or f (option_or g h) ≡ option_or (option_or f g) h
+either_assoc None g h = refl
+either_assoc (Some r) g h = refl
 
 -- ---- the first fault of a list
 
@@ -65,3 +76,20 @@ later f g h none e = rw none e
 
 pub sooner : (f g : Option ProjectRefusal) (r : ProjectRefusal) → f ≡ Some r → option_or f g ≡ Some r
 sooner f g r e = rw e
+
+-- ---- the members of an object
+
+pub members_fault-append : (place : Place) (d : Data) (ms ns : List Member)
+    → members_fault place d (ms ++ ns) ≡ option_or (members_fault place d ms) (members_fault place d ns)
+members_fault-append place d [] ns = refl
+members_fault-append place d (m ∷ ms) ns = rw (members_fault-append place d ms ns) (either_assoc (member_fault place d m) _ _)
+
+pub unknown_fault-next : (place : Place) (known : List ℕ → Bool) (es : List Entry) (e : Entry) (rest : List Entry)
+    → es ≡ e ∷ rest → known (string_bytes e.0) ≡ true
+    → unknown_fault place known (members_view es) ≡ unknown_fault place known (members_view rest)
+unknown_fault-next place known es e rest here k = rw (here, k)
+
+pub unknown_fault-here : (place : Place) (known : List ℕ → Bool) (es : List Entry) (e : Entry) (rest : List Entry)
+    → es ≡ e ∷ rest → known (string_bytes e.0) ≡ false
+    → unknown_fault place known (members_view es) ≡ Some (UnknownMember (member_name place (string_bytes e.0)))
+unknown_fault-here place known es e rest here k = rw (here, k)

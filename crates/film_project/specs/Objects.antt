@@ -53,8 +53,11 @@ project_members = title_members ++ (format_members ++ list_members)
 
 -- channels of sound have to be there; elsewhere they may be absent or 0
 abbrev pub channel_member : Bool → Member
-channel_member true = required (codes "channels") (number 1 16)
-channel_member false = optional (codes "channels") (number 0 0)
+channel_member sound = record {
+  name = codes "channels";
+  optional = not sound;
+  kind = if sound then number 1 16 else number 0 0;
+}
 
 abbrev pub asset_kind : List ℕ → AssetKind
 asset_kind word =
@@ -84,23 +87,20 @@ asset_members d =
 abbrev pub greatest_count : ℕ → Data → ℕ
 greatest_count frames d = frames - number_in (codes "at") 0 d
 
-abbrev pub picture_members : ℕ → Data → List Member
-picture_members frames d =
+abbrev pub clip_members : ℕ → Data → List Member
+clip_members frames d =
     required (codes "asset") (text rule.AnyText)
     ∷ required (codes "at") (number 0 431999)
     ∷ required (codes "from") (number 0 999999)
     ∷ required (codes "count") (number 1 (greatest_count frames d))
-    ∷ optional (codes "hold") (number 1 100)
     ∷ []
 
+abbrev pub picture_members : ℕ → Data → List Member
+picture_members frames d = clip_members frames d ++ optional (codes "hold") (number 1 100) ∷ []
+
+-- over the channels of the clip's asset and those of the project
 abbrev pub sound_members : ℕ → ℕ → ℕ → Data → List Member
-sound_members frames inputs outputs d =
-    required (codes "asset") (text rule.AnyText)
-    ∷ required (codes "at") (number 0 431999)
-    ∷ required (codes "from") (number 0 999999)
-    ∷ required (codes "count") (number 1 (greatest_count frames d))
-    ∷ required (codes "gains") (gains inputs outputs)
-    ∷ []
+sound_members frames inputs outputs d = clip_members frames d ++ required (codes "gains") (gains inputs outputs) ∷ []
 
 -- ---- an object against its table
 

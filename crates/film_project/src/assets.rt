@@ -1,11 +1,14 @@
-ghost use Rattle.std.specs.Prelude.{◌≡◌, ◌≢◌, ◌≤◌, ◌<◌, codes, [], true, false, map, length, All, AllPairs, IfOk, IfSome, option_map, slice_index_or};
+ghost use Rattle.std.specs.Prelude.{◌↔◌, IsTrue, ◌≡◌, ◌≢◌, ◌≤◌, ◌<◌, codes, [], true, false, map, length, All, AllPairs, IfOk, IfSome, option_map, slice_index_or};
 ghost use Rattle.film_project.specs.Accepts as spec;
-ghost use Rattle.film_project.specs.Answers.{Answers, AnswersAs};
-ghost use Rattle.film_project.specs.Members.{member_fault, number_in};
+ghost use Rattle.film_project.specs.Answers.{Answers, AnswersAs, Refuses};
+ghost use Rattle.film_project.specs.Members.{member_fault, members_fault, number_in, text_in};
 ghost use Rattle.film_project.specs.Objects as table;
 ghost use Rattle.film_project.specs.Plain.{asset_facts};
 ghost use Rattle.film_project.specs.Texts as texts;
 ghost use Rattle.film_project.specs.declared.asset.Asset.{Asset};
+ghost use Rattle.film_project.specs.declared.asset.AssetKind.TheVariants.{Pcm24};
+ghost use Rattle.film_project.specs.declared.texts.TextRule.TheVariants as rule;
+ghost use Rattle.serde_json.specs.Find.{as_object};
 ghost use Rattle.serde_json.specs.View.{view};
 
 use crate::asset::{Asset, AssetKind};
@@ -46,21 +49,63 @@ fn read_asset(
     ensures new { IfOk result (λ asset. All (λ a. a.id ≢ asset.id) earlier.now) }
 {
     let place = Place::Asset(index);
-    check_object(alloc, value, place, &["id", "kind", "file", "channels"])?;
-    let id = read_text(alloc, value, place, "id", TextRule::Id)?;
-    let word = read_text(alloc, value, place, "kind", TextRule::AssetKind)?;
-    let file = read_text(alloc, value, place, "file", TextRule::File)?;
-    let kind = asset_kind(word);
-    let channels = read_channels(alloc, value, place, carries_sound(kind))?;
-    if has_id(earlier, id.as_bytes()) {
+    check_asset(alloc, value, place)?;
+    let members = read_members(alloc, value, place)?;
+    if has_id(earlier, members.id.as_bytes()) {
         return Err(ProjectRefusal::DoubleAsset {
             name: name_member(alloc, place, "id")?,
         });
     }
     Ok(Asset {
-        id: Bytes::copy_of(alloc, id.as_bytes())?,
+        id: Bytes::copy_of(alloc, members.id.as_bytes())?,
+        kind: members.kind,
+        file: Bytes::copy_of(alloc, members.file.as_bytes())?,
+        channels: members.channels,
+    })
+}
+
+fn check_asset(alloc: Global, value: &Value, place: Place) -> Result<(), ProjectRefusal>
+    ensures { Refuses result
+        (table.shape_fault place (texts.is_one_of (table.names_of (table.asset_members (view value.now)))) (as_object (view value.now))) }
+{
+    check_object(alloc, value, place, &["id", "kind", "file", "channels"])
+}
+
+#[derive(Clone, Copy)]
+struct Members<'v> {
+    id: &'v str,
+    kind: AssetKind,
+    file: &'v str,
+    channels: u8,
+}
+
+fn read_members<'v>(
+    alloc: Global,
+    value: &'v Value,
+    place: Place,
+) -> Result<Members<'v>, ProjectRefusal>
+    ensures refuses { Refuses result
+        (members_fault place (view value.now) (table.asset_members (view value.now))) }
+    ensures id { IfOk result (λ m. m.id.now ≡ text_in (codes "id") (view value.now)) }
+    ensures kind { IfOk result (λ m. m.kind ≡ table.kind_in (view value.now)) }
+    ensures file { IfOk result (λ m. m.file.now ≡ text_in (codes "file") (view value.now)) }
+    ensures channels { IfOk result
+        (λ m. m.channels ≡ number_in (codes "channels") 0 (view value.now)) }
+    ensures id_kept { IfOk result (λ m. IsTrue (texts.keeps rule.Id m.id.now)) }
+    ensures file_kept { IfOk result (λ m. IsTrue (texts.keeps rule.File m.file.now)) }
+    ensures most_channels { IfOk result (λ m. m.channels ≤ 16) }
+    ensures some_channels { IfOk result (λ m. m.kind ≡ Pcm24 → 1 ≤ m.channels) }
+    ensures no_channels { IfOk result (λ m. m.kind ≢ Pcm24 → m.channels ≡ 0) }
+{
+    let id = read_text(alloc, value, place, "id", TextRule::Id)?;
+    let word = read_text(alloc, value, place, "kind", TextRule::AssetKind)?;
+    let file = read_text(alloc, value, place, "file", TextRule::File)?;
+    let kind = asset_kind(word);
+    let channels = read_channels(alloc, value, place, carries_sound(kind))?;
+    Ok(Members {
+        id,
         kind,
-        file: Bytes::copy_of(alloc, file.as_bytes())?,
+        file,
         channels: channels as u8,
     })
 }
@@ -81,7 +126,8 @@ fn asset_kind(word: &str) -> AssetKind
 
 /// The asset holds sound.
 pub(crate) fn carries_sound(kind: AssetKind) -> bool
-    ensures { result ≡ table.carries_sound kind }
+    ensures value { result ≡ table.carries_sound kind }
+    ensures sound { IsTrue result ↔ (kind ≡ Pcm24) }
 {
     match kind {
         AssetKind::Pcm24 => true,

@@ -1,11 +1,14 @@
-ghost use Rattle.std.specs.Prelude.{◌≡◌, ◌≢◌, ◌≤◌, ◌<◌, codes, false, true, map, length, All, IfOk, IsOk, IsSomeAnd, option_map, slice_index_or};
+ghost use Rattle.std.specs.Prelude.{◌≡◌, ◌≢◌, ◌≤◌, ◌<◌, ◌+◌, ℕ, codes, false, true, map, length, All, IfOk, IsOk, IsSomeAnd, option_map, slice_index_or};
 ghost use Rattle.film_project.specs.Accepts as spec;
-ghost use Rattle.film_project.specs.Answers.{Answers, AnswersAs};
+ghost use Rattle.film_project.specs.Answers.{Answers, AnswersAs, Refuses};
 ghost use Rattle.film_project.specs.Fits.{PictureFits, SoundFits};
-ghost use Rattle.film_project.specs.Members.{first_of};
+ghost use Rattle.film_project.specs.Members.{first_of, members_fault, number_in, text_in};
 ghost use Rattle.film_project.specs.Names.{member_name};
+ghost use Rattle.film_project.specs.Objects as table;
 ghost use Rattle.film_project.specs.Objects.{carries_sound as sounds};
+ghost use Rattle.film_project.specs.Texts.{is_one_of};
 ghost use Rattle.film_project.specs.Plain.{asset_facts, picture_facts, sound_facts};
+ghost use Rattle.serde_json.specs.Find.{as_object};
 ghost use Rattle.serde_json.specs.View.{view};
 
 use crate::asset::Asset;
@@ -57,21 +60,64 @@ fn read_picture_clip(
     ensures fits { IfOk result (PictureFits frames assets.now) }
 {
     let place = Place::Picture(index);
-    check_object(alloc, value, place, &["asset", "at", "from", "count", "hold"])?;
-    let id = read_text(alloc, value, place, "asset", TextRule::AnyText)?;
+    check_picture(alloc, value, place)?;
+    let members = read_members(alloc, value, place, frames)?;
+    let hold = read_optional(alloc, value, place, "hold", 1, 100, 1)?;
+    let found = find_asset(assets, members.asset.as_bytes());
+    let asset = clip_asset(alloc, place, found, false)?;
+    Ok(PictureClip {
+        asset: asset as u32,
+        at: members.at,
+        from: members.from,
+        count: members.count,
+        hold: hold as u32,
+    })
+}
+
+fn check_picture(alloc: Global, value: &Value, place: Place) -> Result<(), ProjectRefusal>
+    ensures { (frames : ℕ) → Refuses result
+        (table.shape_fault place (is_one_of (table.names_of (table.picture_members frames (view value.now)))) (as_object (view value.now))) }
+{
+    check_object(alloc, value, place, &["asset", "at", "from", "count", "hold"])
+}
+
+/// What both kinds of clips have.
+#[derive(Clone, Copy)]
+struct Members<'v> {
+    asset: &'v str,
+    at: u32,
+    from: u32,
+    count: u32,
+}
+
+fn read_members<'v>(
+    alloc: Global,
+    value: &'v Value,
+    place: Place,
+    frames: u32,
+) -> Result<Members<'v>, ProjectRefusal>
+    requires { frames ≤ 432000 }
+    ensures refuses { Refuses result
+        (members_fault place (view value.now) (table.clip_members frames (view value.now))) }
+    ensures asset { IfOk result (λ m. m.asset.now ≡ text_in (codes "asset") (view value.now)) }
+    ensures at { IfOk result (λ m. m.at ≡ number_in (codes "at") 0 (view value.now)) }
+    ensures from { IfOk result (λ m. m.from ≡ number_in (codes "from") 0 (view value.now)) }
+    ensures count { IfOk result (λ m. m.count ≡ number_in (codes "count") 0 (view value.now)) }
+    ensures most_at { IfOk result (λ m. m.at ≤ 431999) }
+    ensures most_from { IfOk result (λ m. m.from ≤ 999999) }
+    ensures some_count { IfOk result (λ m. 1 ≤ m.count) }
+    ensures ends { IfOk result (λ m. m.at + m.count ≤ frames) }
+{
+    let asset = read_text(alloc, value, place, "asset", TextRule::AnyText)?;
     let at = read_number(alloc, value, place, "at", 0, 431_999)?;
     let from = read_number(alloc, value, place, "from", 0, 999_999)?;
     let most = (frames as u64).saturating_sub(at);
     let count = read_number(alloc, value, place, "count", 1, most)?;
-    let hold = read_optional(alloc, value, place, "hold", 1, 100, 1)?;
-    let found = find_asset(assets, id.as_bytes());
-    let asset = clip_asset(alloc, place, found, false)?;
-    Ok(PictureClip {
-        asset: asset as u32,
+    Ok(Members {
+        asset,
         at: at as u32,
         from: from as u32,
         count: count as u32,
-        hold: hold as u32,
     })
 }
 
@@ -138,23 +184,26 @@ fn read_sound_clip(
     ensures fits { IfOk result (SoundFits frames channels assets.now) }
 {
     let place = Place::Sound(index);
-    check_object(alloc, value, place, &["asset", "at", "from", "count", "gains"])?;
-    let id = read_text(alloc, value, place, "asset", TextRule::AnyText)?;
-    let at = read_number(alloc, value, place, "at", 0, 431_999)?;
-    let from = read_number(alloc, value, place, "from", 0, 999_999)?;
-    let most = (frames as u64).saturating_sub(at);
-    let count = read_number(alloc, value, place, "count", 1, most)?;
-    let found = find_asset(assets, id.as_bytes());
+    check_sound(alloc, value, place)?;
+    let members = read_members(alloc, value, place, frames)?;
+    let found = find_asset(assets, members.asset.as_bytes());
     let inputs = input_channels(found);
     let gains = read_gains(alloc, value, place, inputs as u64, channels as u64)?;
     let asset = clip_asset(alloc, place, found, true)?;
     Ok(SoundClip {
         asset: asset as u32,
-        at: at as u32,
-        from: from as u32,
-        count: count as u32,
+        at: members.at,
+        from: members.from,
+        count: members.count,
         gains,
     })
+}
+
+fn check_sound(alloc: Global, value: &Value, place: Place) -> Result<(), ProjectRefusal>
+    ensures { (frames inputs outputs : ℕ) → Refuses result
+        (table.shape_fault place (is_one_of (table.names_of (table.sound_members frames inputs outputs (view value.now)))) (as_object (view value.now))) }
+{
+    check_object(alloc, value, place, &["asset", "at", "from", "count", "gains"])
 }
 
 /// The channels of a clip's asset. Where there is no such asset, a channel need only be below 16.
