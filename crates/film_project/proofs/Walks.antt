@@ -84,6 +84,21 @@ pub members_fault-append : (place : Place) (d : Data) (ms ns : List Member)
 members_fault-append place d [] ns = refl
 members_fault-append place d (m ∷ ms) ns = rw (members_fault-append place d ms ns) (either_assoc (member_fault place d m) _ _)
 
+or_none : (f : Option ProjectRefusal) → option_or f None ≡ f
+or_none None = refl
+or_none (Some r) = refl
+
+pub one_fault : (place : Place) (d : Data) (m : Member) (h : Option ProjectRefusal) → member_fault place d m ≡ h → members_fault place d (m ∷ []) ≡ h
+one_fault place d m h e = or_none (member_fault place d m) ∙ e
+
+pub members_fault-sooner : (place : Place) (d : Data) (ms ns : List Member) (r : ProjectRefusal)
+    → members_fault place d ms ≡ Some r → members_fault place d (ms ++ ns) ≡ Some r
+members_fault-sooner place d ms ns r e = members_fault-append place d ms ns ∙ sooner _ _ r e
+
+pub members_fault-later : (place : Place) (d : Data) (ms ns : List Member) (h : Option ProjectRefusal)
+    → members_fault place d ms ≡ None → members_fault place d ns ≡ h → members_fault place d (ms ++ ns) ≡ h
+members_fault-later place d ms ns h none e = members_fault-append place d ms ns ∙ later _ _ h none e
+
 pub unknown_fault-next : (place : Place) (known : List ℕ → Bool) (es : List Entry) (e : Entry) (rest : List Entry)
     → es ≡ e ∷ rest → known (string_bytes e.0) ≡ true
     → unknown_fault place known (members_view es) ≡ unknown_fault place known (members_view rest)

@@ -8,3 +8,5 @@ pub mod Accepts
 pub mod Fits
 pub mod Plain
 pub mod Gains
+pub mod Clips
+pub mod Top

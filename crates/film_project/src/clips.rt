@@ -1,19 +1,20 @@
 ghost use Rattle.std.specs.Prelude.{◌≡◌, ◌≢◌, ◌≤◌, ◌<◌, ◌+◌, ℕ, codes, false, true, map, length, All, IfOk, IsOk, IsSomeAnd, option_map, slice_index_or};
 ghost use Rattle.film_project.specs.Accepts as spec;
 ghost use Rattle.film_project.specs.Answers.{Answers, AnswersAs, Refuses};
-ghost use Rattle.film_project.specs.Fits.{PictureFits, SoundFits};
-ghost use Rattle.film_project.specs.Members.{first_of, members_fault, number_in, text_in};
+ghost use Rattle.film_project.specs.Clips.{IsMembers};
+ghost use Rattle.film_project.specs.Fits.{GainFits, PictureFits, SoundFits};
+ghost use Rattle.film_project.specs.Members.{first_of, gain_of, list_in, members_fault, number_in, text_in};
 ghost use Rattle.film_project.specs.Names.{member_name};
 ghost use Rattle.film_project.specs.Objects as table;
 ghost use Rattle.film_project.specs.Objects.{carries_sound as sounds};
 ghost use Rattle.film_project.specs.Texts.{is_one_of};
-ghost use Rattle.film_project.specs.Plain.{asset_facts, picture_facts, sound_facts};
+ghost use Rattle.film_project.specs.Plain.{asset_facts, gain_facts, picture_facts, sound_facts};
 ghost use Rattle.serde_json.specs.Find.{as_object};
 ghost use Rattle.serde_json.specs.View.{view};
 
 use crate::asset::Asset;
 use crate::assets::{carries_sound, find_asset};
-use crate::clip::{PictureClip, SoundClip};
+use crate::clip::{Gain, PictureClip, SoundClip};
 use crate::gains::read_gains;
 use crate::member::{read_number, read_optional, read_text};
 use crate::object::check_object;
@@ -61,8 +62,7 @@ fn read_picture_clip(
 {
     let place = Place::Picture(index);
     check_picture(alloc, value, place)?;
-    let members = read_members(alloc, value, place, frames)?;
-    let hold = read_optional(alloc, value, place, "hold", 1, 100, 1)?;
+    let (members, hold) = read_picture_members(alloc, value, place, frames)?;
     let found = find_asset(assets, members.asset.as_bytes());
     let asset = clip_asset(alloc, place, found, false)?;
     Ok(PictureClip {
@@ -70,7 +70,7 @@ fn read_picture_clip(
         at: members.at,
         from: members.from,
         count: members.count,
-        hold: hold as u32,
+        hold,
     })
 }
 
@@ -79,6 +79,25 @@ fn check_picture(alloc: Global, value: &Value, place: Place) -> Result<(), Proje
         (table.shape_fault place (is_one_of (table.names_of (table.picture_members frames (view value.now)))) (as_object (view value.now))) }
 {
     check_object(alloc, value, place, &["asset", "at", "from", "count", "hold"])
+}
+
+fn read_picture_members<'v>(
+    alloc: Global,
+    value: &'v Value,
+    place: Place,
+    frames: u32,
+) -> Result<(Members<'v>, u32), ProjectRefusal>
+    requires { frames ≤ 432000 }
+    ensures refuses { Refuses result
+        (members_fault place (view value.now) (table.picture_members frames (view value.now))) }
+    ensures members { IfOk result (λ p. IsMembers frames p.0 (view value.now)) }
+    ensures hold { IfOk result (λ p. p.1 ≡ number_in (codes "hold") 1 (view value.now)) }
+    ensures some_hold { IfOk result (λ p. 1 ≤ p.1) }
+    ensures most_hold { IfOk result (λ p. p.1 ≤ 100) }
+{
+    let members = read_members(alloc, value, place, frames)?;
+    let hold = read_optional(alloc, value, place, "hold", 1, 100, 1)?;
+    Ok((members, hold as u32))
 }
 
 /// What both kinds of clips have.
@@ -99,14 +118,7 @@ fn read_members<'v>(
     requires { frames ≤ 432000 }
     ensures refuses { Refuses result
         (members_fault place (view value.now) (table.clip_members frames (view value.now))) }
-    ensures asset { IfOk result (λ m. m.asset.now ≡ text_in (codes "asset") (view value.now)) }
-    ensures at { IfOk result (λ m. m.at ≡ number_in (codes "at") 0 (view value.now)) }
-    ensures from { IfOk result (λ m. m.from ≡ number_in (codes "from") 0 (view value.now)) }
-    ensures count { IfOk result (λ m. m.count ≡ number_in (codes "count") 0 (view value.now)) }
-    ensures most_at { IfOk result (λ m. m.at ≤ 431999) }
-    ensures most_from { IfOk result (λ m. m.from ≤ 999999) }
-    ensures some_count { IfOk result (λ m. 1 ≤ m.count) }
-    ensures ends { IfOk result (λ m. m.at + m.count ≤ frames) }
+    ensures members { IfOk result (λ m. IsMembers frames m (view value.now)) }
 {
     let asset = read_text(alloc, value, place, "asset", TextRule::AnyText)?;
     let at = read_number(alloc, value, place, "at", 0, 431_999)?;
@@ -185,10 +197,10 @@ fn read_sound_clip(
 {
     let place = Place::Sound(index);
     check_sound(alloc, value, place)?;
-    let members = read_members(alloc, value, place, frames)?;
-    let found = find_asset(assets, members.asset.as_bytes());
+    let id = clip_id(value);
+    let found = find_asset(assets, id.as_bytes());
     let inputs = input_channels(found);
-    let gains = read_gains(alloc, value, place, inputs as u64, channels as u64)?;
+    let (members, gains) = read_sound_members(alloc, value, place, frames, inputs, channels)?;
     let asset = clip_asset(alloc, place, found, true)?;
     Ok(SoundClip {
         asset: asset as u32,
@@ -197,6 +209,40 @@ fn read_sound_clip(
         count: members.count,
         gains,
     })
+}
+
+/// The id of a clip's asset. It is empty where the clip has none, which is told later.
+fn clip_id(value: &Value) -> &str
+    ensures { result.now ≡ text_in (codes "asset") (view value.now) }
+{
+    match value.get("asset") {
+        Some(asset) => asset.as_str().unwrap_or(""),
+        None => "",
+    }
+}
+
+fn read_sound_members<'v>(
+    alloc: Global,
+    value: &'v Value,
+    place: Place,
+    frames: u32,
+    inputs: u8,
+    outputs: u8,
+) -> Result<(Members<'v>, List<Gain>), ProjectRefusal>
+    requires frames { frames ≤ 432000 }
+    requires inputs { inputs ≤ 16 }
+    requires outputs { outputs ≤ 16 }
+    ensures refuses { Refuses result
+        (members_fault place (view value.now) (table.sound_members frames inputs outputs (view value.now))) }
+    ensures members { IfOk result (λ p. IsMembers frames p.0 (view value.now)) }
+    ensures gains { IfOk result
+        (λ p. map gain_facts p.1 ≡ map gain_of (list_in (codes "gains") (view value.now))) }
+    ensures most_gains { IfOk result (λ p. length p.1 ≤ 256) }
+    ensures fits { IfOk result (λ p. All (GainFits inputs outputs) p.1) }
+{
+    let members = read_members(alloc, value, place, frames)?;
+    let gains = read_gains(alloc, value, place, inputs as u64, outputs as u64)?;
+    Ok((members, gains))
 }
 
 fn check_sound(alloc: Global, value: &Value, place: Place) -> Result<(), ProjectRefusal>

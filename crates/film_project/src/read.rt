@@ -2,8 +2,9 @@ ghost use Rattle.std.specs.Prelude.{◌≡◌, ◌≤◌, ◌<◌, Some, codes, 
 ghost use Rattle.film_project.specs.Accepts as spec;
 ghost use Rattle.film_project.specs.Answers.{Answers, AnswersAs, Refuses, IsAnswer};
 ghost use Rattle.film_project.specs.Members.{is_frame_rate, member_fault, members_fault, number_in, text_in, list_in, text};
-ghost use Rattle.film_project.specs.Objects.{required, title_members, format_members, list_members};
+ghost use Rattle.film_project.specs.Objects.{required, title_members, format_members, list_members, project_members};
 ghost use Rattle.film_project.specs.Plain.{project_facts};
+ghost use Rattle.film_project.specs.Top.{AreTitles, IsFormat, AreLists};
 ghost use Rattle.film_project.specs.Texts.{keeps};
 ghost use Rattle.film_project.specs.declared.place.Place.TheVariants.{Project as Top};
 ghost use Rattle.film_project.specs.declared.texts.TextRule.TheVariants as rule;
@@ -50,9 +51,7 @@ fn project_of(alloc: Global, value: &Value) -> Result<Project, ProjectRefusal>
         (spec.project_in (view value.now)) }
 {
     check_project(alloc, value)?;
-    let titles = read_titles(alloc, value)?;
-    let format = read_format(alloc, value)?;
-    let lists = read_lists(alloc, value)?;
+    let (titles, format, lists) = read_top(alloc, value)?;
     let assets = read_assets(alloc, lists.assets)?;
     let picture = read_picture(alloc, lists.picture, format.frames, assets.as_slice())?;
     let sound = read_sound(
@@ -106,6 +105,22 @@ fn check_project(alloc: Global, value: &Value) -> Result<(), ProjectRefusal>
     )
 }
 
+/// The members of the top object; of its lists only that they are there.
+fn read_top<'v>(
+    alloc: Global,
+    value: &'v Value,
+) -> Result<(Titles<'v>, Format, Lists<'v>), ProjectRefusal>
+    ensures refuses { Refuses result (members_fault Top (view value.now) project_members) }
+    ensures titles { IfOk result (λ t. AreTitles t.0 (view value.now)) }
+    ensures format { IfOk result (λ t. IsFormat t.1 (view value.now)) }
+    ensures lists { IfOk result (λ t. AreLists t.2 (view value.now)) }
+{
+    let titles = read_titles(alloc, value)?;
+    let format = read_format(alloc, value)?;
+    let lists = read_lists(alloc, value)?;
+    Ok((titles, format, lists))
+}
+
 #[derive(Clone, Copy)]
 struct Titles<'v> {
     title: &'v str,
@@ -116,15 +131,7 @@ struct Titles<'v> {
 
 fn read_titles<'v>(alloc: Global, value: &'v Value) -> Result<Titles<'v>, ProjectRefusal>
     ensures refuses { Refuses result (members_fault Top (view value.now) title_members) }
-    ensures title { IfOk result (λ t. t.title.now ≡ text_in (codes "title") (view value.now)) }
-    ensures kind { IfOk result (λ t. t.kind.now ≡ text_in (codes "kind") (view value.now)) }
-    ensures issued { IfOk result (λ t. t.issued.now ≡ text_in (codes "issued") (view value.now)) }
-    ensures namespace { IfOk result (λ t. t.namespace ≡ spec.namespace_in (view value.now)) }
-    ensures title_kept { IfOk result (λ t. IsTrue (keeps rule.Title t.title.now)) }
-    ensures kind_kept { IfOk result (λ t. IsTrue (keeps rule.ContentKind t.kind.now)) }
-    ensures issued_kept { IfOk result (λ t. IsTrue (keeps rule.Issued t.issued.now)) }
-    ensures namespace_length { IfOk result (λ t. length t.namespace ≡ 16) }
-    ensures namespace_bytes { IfOk result (λ t. All (λ b. b < 256) t.namespace) }
+    ensures titles { IfOk result (λ t. AreTitles t (view value.now)) }
 {
     let title = read_text(alloc, value, Place::Project, "title", TextRule::Title)?;
     let kind = read_text(alloc, value, Place::Project, "kind", TextRule::ContentKind)?;
@@ -178,18 +185,7 @@ struct Format {
 
 fn read_format(alloc: Global, value: &Value) -> Result<Format, ProjectRefusal>
     ensures refuses { Refuses result (members_fault Top (view value.now) format_members) }
-    ensures width { IfOk result (λ f. f.width ≡ number_in (codes "width") 0 (view value.now)) }
-    ensures height { IfOk result (λ f. f.height ≡ number_in (codes "height") 0 (view value.now)) }
-    ensures fps { IfOk result (λ f. f.fps ≡ number_in (codes "fps") 0 (view value.now)) }
-    ensures rate { IfOk result (λ f. f.rate ≡ number_in (codes "rate") 0 (view value.now)) }
-    ensures power { IfOk result (λ f. f.power ≡ number_in (codes "power") 0 (view value.now)) }
-    ensures channels { IfOk result
-        (λ f. f.channels ≡ number_in (codes "channels") 0 (view value.now)) }
-    ensures frames { IfOk result (λ f. f.frames ≡ number_in (codes "frames") 0 (view value.now)) }
-    ensures ranges { IfOk result (λ f.
-        (32 ≤ f.width) × (f.width ≤ 2048) × (32 ≤ f.height) × (f.height ≤ 1080) × IsTrue (is_frame_rate f.fps)
-        × (10 ≤ f.rate) × (f.rate ≤ 250) × (11 ≤ f.power) × (f.power ≤ 13) × (f.channels ≤ 16)
-        × (1 ≤ f.frames) × (f.frames ≤ 432000)) }
+    ensures format { IfOk result (λ f. IsFormat f (view value.now)) }
 {
     let top = Place::Project;
     let width = read_number(alloc, value, top, "width", 32, 2048)?;
@@ -219,15 +215,7 @@ struct Lists<'v> {
 
 fn read_lists<'v>(alloc: Global, value: &'v Value) -> Result<Lists<'v>, ProjectRefusal>
     ensures refuses { Refuses result (members_fault Top (view value.now) list_members) }
-    ensures assets { IfOk result
-        (λ l. map view l.assets.now ≡ list_in (codes "assets") (view value.now)) }
-    ensures picture { IfOk result
-        (λ l. map view l.picture.now ≡ list_in (codes "picture") (view value.now)) }
-    ensures sound { IfOk result
-        (λ l. map view l.sound.now ≡ list_in (codes "sound") (view value.now)) }
-    ensures most_assets { IfOk result (λ l. length l.assets.now ≤ 1000) }
-    ensures most_picture { IfOk result (λ l. length l.picture.now ≤ 1000) }
-    ensures most_sound { IfOk result (λ l. length l.sound.now ≤ 1000) }
+    ensures lists { IfOk result (λ l. AreLists l (view value.now)) }
 {
     Ok(Lists {
         assets: read_objects(alloc, value, "assets")?,

@@ -20,5 +20,7 @@ returns-then-not-is_one_of c other =
     let e : Entry = (c.in-Some.key.now, c.in-Some.field-0-1.now) in
     let k : known (string_bytes c.in-Some.key.now) ≡ false =
     ap known (sym c.as_str.ensures.value) ∙ sym c.is_one_of.ensures ∙ search rules in
-    c.loop-key.invariant ∙ unknown_fault-here c.args.place known _ e c.next.new.self c.in-Some.ensures.steps k
-    ∙ ap (λ name. Some (UnknownMember name)) (sym (c.in_ok-name_member.ensures tt ∙ ap (member_name c.args.place) c.as_str-then-not-is_one_of.ensures.value))
+    let named : c.in_ok-name_member.field-0 ≡ member_name c.args.place (string_bytes c.in-Some.key.now) =
+    c.in_ok-name_member.ensures {u = tt} ∙ ap (member_name c.args.place) c.as_str-then-not-is_one_of.ensures.value in
+    c.loop-key.invariant ∙ unknown_fault-here c.args.place known c.loop-key.key-iterator e c.next.new.self c.in-Some.ensures.steps k
+    ∙ ap (λ name. Some (UnknownMember name)) (sym named)
