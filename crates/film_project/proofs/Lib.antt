@@ -1,1 +1,5 @@
 pub mod Walks
+pub mod Ids
+pub mod Kept
+pub mod Namespaces
+pub mod Whole

@@ -120,3 +120,10 @@ shape_fault place known (Some ms) = unknown_fault place known ms
 abbrev pub object_fault : Place → List Member → Data → Option ProjectRefusal
 object_fault place table d =
     option_or (shape_fault place (is_one_of (names_of table)) (as_object d)) (members_fault place d table)
+
+-- the names in the tables of clips
+abbrev pub picture_names : List (List ℕ)
+picture_names = codes "asset" ∷ codes "at" ∷ codes "from" ∷ codes "count" ∷ codes "hold" ∷ []
+
+abbrev pub sound_names : List (List ℕ)
+sound_names = codes "asset" ∷ codes "at" ∷ codes "from" ∷ codes "count" ∷ codes "gains" ∷ []

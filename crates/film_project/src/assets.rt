@@ -1,4 +1,4 @@
-ghost use Rattle.std.specs.Prelude.{◌↔◌, IsTrue, ◌≡◌, ◌≢◌, ◌≤◌, ◌<◌, codes, [], true, false, map, length, All, AllPairs, IfOk, IfSome, option_map, slice_index_or};
+ghost use Rattle.std.specs.Prelude.{◌↔◌, IsTrue, IsFalse, ◌≡◌, ◌≢◌, ◌≤◌, ◌<◌, codes, [], true, false, map, length, All, AllPairs, IfOk, IfSome, option_map, slice_index_or};
 ghost use Rattle.film_project.specs.Accepts as spec;
 ghost use Rattle.film_project.specs.Answers.{Answers, AnswersAs, Refuses};
 ghost use Rattle.film_project.specs.Members.{member_fault, members_fault, number_in, text_in};
@@ -156,7 +156,8 @@ fn read_channels(
 }
 
 fn has_id(assets: &[Asset], id: &[u8]) -> bool
-    ensures { result ≡ texts.is_one_of (map (λ a. a.id) assets.now) id.now }
+    ensures value { result ≡ texts.is_one_of (map (λ a. a.id) assets.now) id.now }
+    ensures absent { IsFalse result → All (λ a. a.id ≢ id.now) assets.now }
 {
     for asset in assets {
         if asset.id.as_slice() == id {

@@ -1,4 +1,4 @@
-ghost use Rattle.std.specs.Prelude.{◌≡◌, ◌≢◌, ◌≤◌, ◌<◌, ◌+◌, ℕ, codes, false, true, map, length, All, IfOk, IsOk, IsSomeAnd, option_map, slice_index_or};
+ghost use Rattle.std.specs.Prelude.{◌≡◌, ◌≢◌, ◌≤◌, ◌<◌, ◌+◌, codes, false, true, map, length, All, IfOk, IsOk, IsSomeAnd, option_map, slice_index_or};
 ghost use Rattle.film_project.specs.Accepts as spec;
 ghost use Rattle.film_project.specs.Answers.{Answers, AnswersAs, Refuses};
 ghost use Rattle.film_project.specs.Clips.{IsMembers};
@@ -75,8 +75,8 @@ fn read_picture_clip(
 }
 
 fn check_picture(alloc: Global, value: &Value, place: Place) -> Result<(), ProjectRefusal>
-    ensures { (frames : ℕ) → Refuses result
-        (table.shape_fault place (is_one_of (table.names_of (table.picture_members frames (view value.now)))) (as_object (view value.now))) }
+    ensures { Refuses result
+        (table.shape_fault place (is_one_of table.picture_names) (as_object (view value.now))) }
 {
     check_object(alloc, value, place, &["asset", "at", "from", "count", "hold"])
 }
@@ -246,8 +246,8 @@ fn read_sound_members<'v>(
 }
 
 fn check_sound(alloc: Global, value: &Value, place: Place) -> Result<(), ProjectRefusal>
-    ensures { (frames inputs outputs : ℕ) → Refuses result
-        (table.shape_fault place (is_one_of (table.names_of (table.sound_members frames inputs outputs (view value.now)))) (as_object (view value.now))) }
+    ensures { Refuses result
+        (table.shape_fault place (is_one_of table.sound_names) (as_object (view value.now))) }
 {
     check_object(alloc, value, place, &["asset", "at", "from", "count", "gains"])
 }

@@ -40,8 +40,11 @@ pub fn read_project(alloc: Global, text: &[u8]) -> Result<Project, ProjectRefusa
     }
     match Value::from_slice(alloc, text) {
         Ok(value) => project_of(alloc, &value),
-        Err(error) if error.is_memory() => Err(ProjectRefusal::NoMemory),
-        Err(_) => Err(ProjectRefusal::NotJson),
+        Err(error) => if error.is_memory() {
+            Err(ProjectRefusal::NoMemory)
+        } else {
+            Err(ProjectRefusal::NotJson)
+        },
     }
 }
 
@@ -164,7 +167,9 @@ fn read_namespace(alloc: Global, value: &Value) -> Result<[u8; 16], ProjectRefus
 
 fn namespace_of(text: &str) -> [u8; 16]
     requires { IsTrue (keeps rule.Namespace text.now) }
-    ensures { Some result ≡ parsed text.now }
+    ensures value { Some result ≡ parsed text.now }
+    ensures length { length result ≡ 16 }
+    ensures bytes { All (λ b. b < 256) result }
 {
     match Uuid::parse_str(text) {
         Ok(uuid) => uuid.into_bytes(),
