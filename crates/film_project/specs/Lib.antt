@@ -10,3 +10,4 @@ pub mod Plain
 pub mod Gains
 pub mod Clips
 pub mod Top
+pub mod Refusals

@@ -12,6 +12,7 @@ mod place;
 mod project;
 mod read;
 mod refusal;
+mod line;
 mod texts;
 
 pub use asset::{Asset, AssetKind};
@@ -19,4 +20,5 @@ pub use clip::{Gain, PictureClip, SoundClip};
 pub use project::Project;
 pub use read::read_project;
 pub use refusal::ProjectRefusal;
+pub use line::refusal_text;
 pub use texts::TextRule;
