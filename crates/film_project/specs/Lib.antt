@@ -11,3 +11,4 @@ pub mod Gains
 pub mod Clips
 pub mod Top
 pub mod Refusals
+pub mod Canonical

@@ -3,6 +3,7 @@
 
 mod asset;
 mod assets;
+mod canonical;
 mod clip;
 mod clips;
 mod gains;
