@@ -3,3 +3,4 @@ pub mod Ids
 pub mod Kept
 pub mod Namespaces
 pub mod Whole
+pub mod Ascii

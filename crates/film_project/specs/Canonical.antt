@@ -1,6 +1,6 @@
 -- The canonical JSON of a project: all members are there, in the order of their names' bytes.
 use Rattle.std.specs.Prelude.{ℕ, List, ◌∷◌, [], map, codes, slice_index_or}
-use Rattle.serde_json.specs.Data.{Data, number, unsigned, string, array, object, member, no_members}
+use Rattle.serde_json.specs.Data.{Data, number, unsigned, string, array, object, Members, member, no_members, put}
 use Rattle.serde_json.specs.View.{items_of}
 use Rattle.uuid.specs.Text.{hyphenated_text, lower}
 use Rattle.film_project.specs.Facts.{AssetFacts, PictureFacts, GainFacts, SoundFacts, ProjectFacts}
@@ -67,3 +67,19 @@ project_data p =
     (member (codes "sound") (list (map (sound_data p.assets) p.sound))
     (member (codes "title") (string p.title)
     (member (codes "width") (whole p.width) no_members))))))))))))))
+
+-- the members as they are put in, in three parts
+abbrev pub with_numbers : ProjectFacts → Members → Members
+with_numbers p ms =
+    put (codes "width") (whole p.width) (put (codes "rate") (whole p.rate) (put (codes "power") (whole p.power) (put (codes "height") (whole p.height)
+    (put (codes "frames") (whole p.frames) (put (codes "fps") (whole p.fps) (put (codes "channels") (whole p.channels) ms))))))
+
+abbrev pub with_texts : ProjectFacts → Members → Members
+with_texts p ms =
+    put (codes "title") (string p.title) (put (codes "namespace") (string (hyphenated_text lower p.namespace))
+    (put (codes "kind") (string p.kind) (put (codes "issued") (string p.issued) ms)))
+
+abbrev pub with_lists : ProjectFacts → Members → Members
+with_lists p ms =
+    put (codes "sound") (list (map (sound_data p.assets) p.sound)) (put (codes "picture") (list (map (picture_data p.assets) p.picture))
+    (put (codes "assets") (list (map asset_data p.assets)) ms))

@@ -1,17 +1,17 @@
-ghost use Rattle.std.specs.Prelude.{◌≡◌, ◌≢◌, ◌<◌, Ok, map, length, All, IfOk, IsTrue};
+ghost use Rattle.std.specs.Prelude.{◌≡◌, ◌≢◌, ◌<◌, Ok, map, length, All, IfOk, OnOk, IsTrue};
 ghost use Rattle.film_project.specs.Canonical as spec;
 ghost use Rattle.film_project.specs.Plain.{asset_facts, gain_facts, picture_facts, sound_facts, project_facts};
 ghost use Rattle.film_project.specs.Texts.{keeps};
 ghost use Rattle.film_project.specs.declared.texts.TextRule.TheVariants.{AnyText};
-ghost use Rattle.serde_json.specs.Data.{string, array};
-ghost use Rattle.serde_json.specs.View.{view, items_of};
+ghost use Rattle.serde_json.specs.Data.{string};
+ghost use Rattle.serde_json.specs.View.{view, members_view};
 ghost use Rattle.uuid.specs.Text.{hyphenated_text, lower};
 
 use crate::asset::{Asset, AssetKind};
 use crate::clip::{Gain, PictureClip, SoundClip};
 use crate::project::Project;
 use crate::texts::TextRule;
-use serde_json::{Value, json};
+use serde_json::{Map, Value, json, put};
 use std::alloc::{AllocError, Global};
 use std::str;
 use uuid::Uuid;
@@ -19,30 +19,63 @@ use uuid::Uuid;
 pub(crate) fn project_value(alloc: Global, project: &Project) -> Result<Value, AllocError>
     ensures { IfOk result (λ v. view v ≡ spec.project_data (project_facts project.now)) }
 {
-    let assets = project.assets.as_slice();
+    let mut members = Map::new(alloc);
+    put_numbers(alloc, &mut members, project)?;
+    put_texts(alloc, &mut members, project)?;
+    put_lists(alloc, &mut members, project)?;
+    Ok(Value::Object(members))
+}
+
+fn put_numbers(
+    alloc: Global,
+    members: &mut Map<String, Value>,
+    project: &Project,
+) -> Result<(), AllocError>
+    ensures { OnOk result (members_view members.new.entries
+        ≡ spec.with_numbers (project_facts project.now) (members_view members.old.entries)) }
+{
+    put(members, alloc, "channels", Value::from(project.channels))?;
+    put(members, alloc, "fps", Value::from(project.fps))?;
+    put(members, alloc, "frames", Value::from(project.frames))?;
+    put(members, alloc, "height", Value::from(project.height))?;
+    put(members, alloc, "power", Value::from(project.power))?;
+    put(members, alloc, "rate", Value::from(project.rate))?;
+    put(members, alloc, "width", Value::from(project.width))
+}
+
+fn put_texts(
+    alloc: Global,
+    members: &mut Map<String, Value>,
+    project: &Project,
+) -> Result<(), AllocError>
+    ensures { OnOk result (members_view members.new.entries
+        ≡ spec.with_texts (project_facts project.now) (members_view members.old.entries)) }
+{
     let issued = text_value(alloc, TextRule::Issued, project.issued.as_slice())?;
+    put(members, alloc, "issued", issued)?;
     let kind = text_value(alloc, TextRule::ContentKind, project.kind.as_slice())?;
-    let title = text_value(alloc, TextRule::Title, project.title.as_slice())?;
+    put(members, alloc, "kind", kind)?;
     let namespace = namespace_value(alloc, project.namespace)?;
+    put(members, alloc, "namespace", namespace)?;
+    let title = text_value(alloc, TextRule::Title, project.title.as_slice())?;
+    put(members, alloc, "title", title)
+}
+
+fn put_lists(
+    alloc: Global,
+    members: &mut Map<String, Value>,
+    project: &Project,
+) -> Result<(), AllocError>
+    ensures { OnOk result (members_view members.new.entries
+        ≡ spec.with_lists (project_facts project.now) (members_view members.old.entries)) }
+{
+    let assets = project.assets.as_slice();
+    let values = asset_values(alloc, assets)?;
+    put(members, alloc, "assets", Value::Array(values))?;
     let picture = picture_values(alloc, project.picture.as_slice(), assets)?;
+    put(members, alloc, "picture", Value::Array(picture))?;
     let sound = sound_values(alloc, project.sound.as_slice(), assets)?;
-    let assets = asset_values(alloc, assets)?;
-    json!(in alloc; {
-        "assets": assets,
-        "channels": project.channels,
-        "fps": project.fps,
-        "frames": project.frames,
-        "height": project.height,
-        "issued": issued,
-        "kind": kind,
-        "namespace": namespace,
-        "picture": picture,
-        "power": project.power,
-        "rate": project.rate,
-        "sound": sound,
-        "title": title,
-        "width": project.width
-    })
+    put(members, alloc, "sound", Value::Array(sound))
 }
 
 /// A text that keeps its rule, and so is ASCII.
