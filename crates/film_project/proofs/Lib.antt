@@ -4,3 +4,6 @@ pub mod Kept
 pub mod Namespaces
 pub mod Whole
 pub mod Ascii
+pub mod Back
+pub mod BackClips
+pub mod BackTop

@@ -1,9 +1,11 @@
 ghost use Rattle.std.specs.Prelude.{◌≡◌, ◌≢◌, ◌<◌, Ok, map, length, All, IfOk, OnOk, IsTrue};
+ghost use Rattle.film_project.specs.Accepts.{accepts};
 ghost use Rattle.film_project.specs.Canonical as spec;
 ghost use Rattle.film_project.specs.Plain.{asset_facts, gain_facts, picture_facts, sound_facts, project_facts};
 ghost use Rattle.film_project.specs.Texts.{keeps};
 ghost use Rattle.film_project.specs.declared.texts.TextRule.TheVariants.{AnyText};
 ghost use Rattle.serde_json.specs.Data.{string};
+ghost use Rattle.serde_json.specs.Written.{compact_text};
 ghost use Rattle.serde_json.specs.View.{view, members_view};
 ghost use Rattle.uuid.specs.Text.{hyphenated_text, lower};
 
@@ -11,12 +13,25 @@ use crate::asset::{Asset, AssetKind};
 use crate::clip::{Gain, PictureClip, SoundClip};
 use crate::project::Project;
 use crate::texts::TextRule;
+use mast_world::{Bytes, NoMemory};
 use serde_json::{Map, Value, json, put};
 use std::alloc::{AllocError, Global};
 use std::str;
 use uuid::Uuid;
 
-pub(crate) fn project_value(alloc: Global, project: &Project) -> Result<Value, AllocError>
+/// The canonical text of the project: JSON without spaces that has all members, in the order of
+/// their names' bytes.
+pub fn project_text(alloc: Global, project: &Project) -> Result<Bytes, NoMemory>
+    ensures canonical { IfOk result
+        (λ text. text ≡ compact_text (spec.project_data (project_facts project.now))) }
+    ensures reads_back { IfOk result
+        (λ text. accepts text ≡ Ok (project_facts project.now)) }
+{
+    let value = project_value(alloc, project)?;
+    Ok(Bytes::from(value.to_vec(alloc)?))
+}
+
+fn project_value(alloc: Global, project: &Project) -> Result<Value, AllocError>
     ensures { IfOk result (λ v. view v ≡ spec.project_data (project_facts project.now)) }
 {
     let mut members = Map::new(alloc);

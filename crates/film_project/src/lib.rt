@@ -17,6 +17,7 @@ mod line;
 mod texts;
 
 pub use asset::{Asset, AssetKind};
+pub use canonical::project_text;
 pub use clip::{Gain, PictureClip, SoundClip};
 pub use project::Project;
 pub use read::read_project;
