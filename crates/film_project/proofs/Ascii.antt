@@ -9,6 +9,7 @@ use Rattle.std.specs.Str.{IsAscii, IsUtf8}
 use Rattle.film_project.specs.Texts.{keeps, offends, offends_file, begins_dots, is_printable, is_name_byte, fits_date, fits_uuid, is_one_of, content_kinds, asset_kinds, word_place}
 use Rattle.film_project.specs.declared.texts.TextRule.{TextRule}
 use Rattle.film_project.specs.declared.texts.TextRule.TheVariants.{Title, ContentKind, Issued, Namespace, Id, AssetKind, File, AnyText}
+use Rattle.film_project.proofs.Ids.{word_passes}
 use Rattle.film_project.proofs.Kept.{IsKept, kept_parts}
 
 pub not_false : (b : Bool) → not b ≡ false → b ≡ true
@@ -47,22 +48,7 @@ small_reads [] e k h = absurd (omega arith)
 small_reads (b ∷ bs) e zero h = small_head b (and_parts (nat_lt b 128) (all_small bs) e).0
 small_reads (b ∷ bs) e (suc k) h = small_reads bs (and_parts (nat_lt b 128) (all_small bs) e).1 k (omega arith)
 
-all_words_small : List (List ℕ) → Bool
-all_words_small [] = true
-all_words_small (w ∷ ws) = all_small w && all_words_small ws
-
-this_or : (b : Bool) (w s : List ℕ) (rest : Bool) → bytes_eq w s ≡ b → all_small w ≡ true → (rest ≡ true → all_small s ≡ true) → (b || rest) ≡ true → all_small s ≡ true
-this_or true w s rest is small other e = subst (λ t. all_small t ≡ true) ((bytes_eq-Decides w s).0 is) small
-this_or false w s rest is small other e = other e
-
-word_of : (ws : List (List ℕ)) (s : List ℕ) → all_words_small ws ≡ true → is_one_of ws s ≡ true → all_small s ≡ true
-unfolding all_words_small
-word_of [] s small e = absurd (cc)
-word_of (w ∷ ws) s small e =
-    let p = and_parts (all_small w) (all_words_small ws) small in
-    this_or (bytes_eq w s) w s (is_one_of ws s) refl p.0 (word_of ws s p.1) e
-
-known : (b : Bool) → word_place b ≡ None → b ≡ true
+pub known : (b : Bool) → word_place b ≡ None → b ≡ true
 known true e = refl
 known false e = absurd (cc)
 
@@ -80,11 +66,11 @@ path_at s k e =
     not_false (is_name_byte x || (x == 47)) (or_parts far bad neither).1
 
 pub kept-ascii : (rule : TextRule) (s : List ℕ) → rule ≢ AnyText → IsKept rule s → IsAscii s
-unfolding all_small all_words_small
+unfolding all_small
 kept-ascii Title s ruled kept =
     IsAscii-from_reads s (length s) (omega arith) (λ k h. printable_small (slice_index s k) (not_false _ (or_parts (nat_le 100 k) _ (kept.bytes k h)).1))
 kept-ascii ContentKind s ruled kept =
-    IsAscii-from_reads s (length s) (omega arith) (small_reads s (word_of content_kinds s refl (known _ kept.meaning)))
+    IsAscii-from_reads s (length s) (omega arith) (small_reads s (word_passes all_small content_kinds s refl (known _ kept.meaning)))
 kept-ascii Issued s ruled kept =
     IsAscii-from_reads s (length s) (omega arith) (λ k h. date_small k (slice_index s k) (not_false _ (or_parts (nat_le 19 k) _ (kept.bytes k h)).1))
 kept-ascii Namespace s ruled kept =
@@ -92,7 +78,7 @@ kept-ascii Namespace s ruled kept =
 kept-ascii Id s ruled kept =
     IsAscii-from_reads s (length s) (omega arith) (λ k h. name_small (slice_index s k) (not_false _ (or_parts (nat_le 40 k) _ (kept.bytes k h)).1))
 kept-ascii AssetKind s ruled kept =
-    IsAscii-from_reads s (length s) (omega arith) (small_reads s (word_of asset_kinds s refl (known _ kept.meaning)))
+    IsAscii-from_reads s (length s) (omega arith) (small_reads s (word_passes all_small asset_kinds s refl (known _ kept.meaning)))
 kept-ascii File s ruled kept =
     IsAscii-from_reads s (length s) (omega arith) (λ k h. path_small (slice_index s k) (path_at s k (kept.bytes k h)))
 kept-ascii AnyText s ruled kept = absurd (ruled refl)

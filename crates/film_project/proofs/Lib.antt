@@ -7,3 +7,5 @@ pub mod Ascii
 pub mod Back
 pub mod BackClips
 pub mod BackTop
+pub mod Shape
+pub mod Size
