@@ -9,3 +9,5 @@ pub mod BackClips
 pub mod BackTop
 pub mod Shape
 pub mod Size
+pub mod Sizes
+pub mod Printed

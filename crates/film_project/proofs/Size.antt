@@ -61,15 +61,15 @@ each m (x ∷ s) f =
 in_quotes : (s : List ℕ) → length (quoted s) ≡ length (flat_map escape_byte s) + 2
 in_quotes s = omega (arith, length-append (flat_map escape_byte s) (34 ∷ []))
 
-any_text : (s : List ℕ) → length (quoted s) ≤ 6 * length s + 2
+pub any_text : (s : List ℕ) → length (quoted s) ≤ 6 * length s + 2
 any_text s = omega (arith, in_quotes s, each 6 s (λ k h. any_byte (get_or s k 0)))
 
-plain_text : (s : List ℕ) → ((k : ℕ) → k < length s → (is_name_byte (slice_index s k) || (slice_index s k == 47)) ≡ true) → length (quoted s) ≤ length s + 2
+pub plain_text : (s : List ℕ) → ((k : ℕ) → k < length s → (is_name_byte (slice_index s k) || (slice_index s k == 47)) ≡ true) → length (quoted s) ≤ length s + 2
 plain_text s f = omega (arith, in_quotes s, each 1 s (λ k h. path_byte (slice_index s k) (f k h)))
 
 -- ---- texts that keep their rules
 
-name_or : (b c : Bool) → b ≡ true → (b || c) ≡ true
+pub name_or : (b c : Bool) → b ≡ true → (b || c) ≡ true
 name_or b c e = rw e
 
 pub id_size : (s : List ℕ) → keeps rule.Id s ≡ true → length (quoted s) ≤ 42
@@ -96,7 +96,7 @@ kind_size s e =
     let word = known (is_one_of content_kinds s) (kept_parts rule.ContentKind s e).meaning in
     omega (arith, at_most (length s) 13 (word_passes (λ w. nat_le (length w) 13) content_kinds s refl word), any_text s)
 
-namespace_size : (xs : List ℕ) → length (quoted (hyphenated_text lower xs)) ≤ 218
+pub namespace_size : (xs : List ℕ) → length (quoted (hyphenated_text lower xs)) ≤ 218
 namespace_size xs =
     let long : length (hyphenated_text lower xs) ≡ 36 = by_index_length 36 _ in
     omega (arith, any_text (hyphenated_text lower xs), long)
@@ -107,7 +107,7 @@ comma_size : (later : Bool) → length (comma_if later) ≤ 1
 comma_size true = omega arith
 comma_size false = omega arith
 
-member_size : (later : Bool) (k : List ℕ) (d : Data) (ms : Members) (key value rest : ℕ) → length (quoted k) ≤ key → length (compact_text d) ≤ value
+pub member_size : (later : Bool) (k : List ℕ) (d : Data) (ms : Members) (key value rest : ℕ) → length (quoted k) ≤ key → length (compact_text d) ≤ value
     → length (members_text true ms) ≤ rest → length (members_text later (member k d ms)) ≤ 2 + key + value + rest
 member_size later k d ms key value rest a b c =
     let inner = compact_text d ++ members_text true ms in
@@ -133,12 +133,12 @@ mapped_size f g most xs short =
 
 -- ---- numbers
 
-number_size : (k n : ℕ) → 0 < k → n < 10 ^ k → n < 2 ^ 64 → length (decimal n) ≤ k
+pub number_size : (k n : ℕ) → 0 < k → n < 10 ^ k → n < 2 ^ 64 → length (decimal n) ≤ k
 number_size k n some h fits = length-decimal-le k n some h fits
 
 -- ---- assets
 
-kind_word_size : (kind : AssetKind) → length (quoted (kind_word kind)) ≤ 44
+pub kind_word_size : (kind : AssetKind) → length (quoted (kind_word kind)) ≤ 44
 kind_word_size Rgb48 = omega (arith, any_text (kind_word Rgb48))
 kind_word_size Ppm = omega (arith, any_text (kind_word Ppm))
 kind_word_size J2c = omega (arith, any_text (kind_word J2c))

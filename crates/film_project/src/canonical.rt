@@ -26,6 +26,7 @@ pub fn project_text(alloc: Global, project: &Project) -> Result<Bytes, NoMemory>
         (λ text. text ≡ compact_text (spec.project_data (project_facts project.now))) }
     ensures reads_back { IfOk result
         (λ text. accepts text ≡ Ok (project_facts project.now)) }
+    ensures short { IfOk result (λ text. length text < 4400000) }
 {
     let value = project_value(alloc, project)?;
     Ok(Bytes::from(value.to_vec(alloc)?))
