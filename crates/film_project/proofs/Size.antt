@@ -111,16 +111,30 @@ pub member_size : (later : Bool) (k : List ℕ) (d : Data) (ms : Members) (key v
     → length (members_text true ms) ≤ rest → length (members_text later (member k d ms)) ≤ 2 + key + value + rest
 member_size later k d ms key value rest a b c =
     let inner = compact_text d ++ members_text true ms in
-    omega (arith, length-append (comma_if later) (quoted k ++ 58 ∷ inner), length-append (quoted k) (58 ∷ inner),
-    length-append (compact_text d) (members_text true ms), comma_size later, a, b, c)
+    omega (
+      arith,
+      length-append (comma_if later) (quoted k ++ 58 ∷ inner),
+      length-append (quoted k) (58 ∷ inner),
+      length-append (compact_text d) (members_text true ms),
+      comma_size later,
+      a,
+      b,
+      c,
+    )
 
 pub items_size : {X : Type 0} (f : X → Data) (most : ℕ) (later : Bool) (xs : List X) → ((x : X) → length (compact_text (f x)) ≤ most)
     → length (items_text later (items_of (map f xs))) ≤ (most + 1) * length xs + 1
 items_size f most later [] short = omega arith
 items_size f most later (x ∷ xs) short =
     let rest = items_text true (items_of (map f xs)) in
-    rw mul-suc (omega (arith, length-append (comma_if later) (compact_text (f x) ++ rest), length-append (compact_text (f x)) rest, comma_size later, short x,
-    items_size f most true xs short))
+    rw mul-suc (omega (
+      arith,
+      length-append (comma_if later) (compact_text (f x) ++ rest),
+      length-append (compact_text (f x)) rest,
+      comma_size later,
+      short x,
+      items_size f most true xs short,
+    ))
 
 mapped : {A B C : Type 0} (f : A → B) (g : B → C) (xs : List A) → map g (map f xs) ≡ map (λ x. g (f x)) xs
 mapped f g [] = refl

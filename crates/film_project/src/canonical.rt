@@ -173,11 +173,7 @@ fn picture_values(
     Ok(values)
 }
 
-fn picture_value(
-    alloc: Global,
-    clip: &PictureClip,
-    assets: &[Asset],
-) -> Result<Value, AllocError>
+fn picture_value(alloc: Global, clip: &PictureClip, assets: &[Asset]) -> Result<Value, AllocError>
     requires { clip.now.asset < length assets.now }
     ensures { IfOk result (λ v. view v
         ≡ spec.picture_data (map asset_facts assets.now) (picture_facts clip.now)) }

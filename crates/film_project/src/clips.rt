@@ -78,7 +78,12 @@ fn check_picture(alloc: Global, value: &Value, place: Place) -> Result<(), Proje
     ensures { Refuses result
         (table.shape_fault place (is_one_of table.picture_names) (as_object (view value.now))) }
 {
-    check_object(alloc, value, place, &["asset", "at", "from", "count", "hold"])
+    check_object(
+        alloc,
+        value,
+        place,
+        &["asset", "at", "from", "count", "hold"],
+    )
 }
 
 fn read_picture_members<'v>(
@@ -249,7 +254,12 @@ fn check_sound(alloc: Global, value: &Value, place: Place) -> Result<(), Project
     ensures { Refuses result
         (table.shape_fault place (is_one_of table.sound_names) (as_object (view value.now))) }
 {
-    check_object(alloc, value, place, &["asset", "at", "from", "count", "gains"])
+    check_object(
+        alloc,
+        value,
+        place,
+        &["asset", "at", "from", "count", "gains"],
+    )
 }
 
 /// The channels of a clip's asset. Where there is no such asset, a channel need only be below 16.

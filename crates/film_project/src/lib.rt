@@ -7,20 +7,22 @@ mod canonical;
 mod clip;
 mod clips;
 mod gains;
+mod line;
 mod member;
 mod object;
 mod place;
 mod project;
 mod read;
 mod refusal;
-mod line;
+#[cfg(test)]
+mod tests;
 mod texts;
 
 pub use asset::{Asset, AssetKind};
 pub use canonical::project_text;
 pub use clip::{Gain, PictureClip, SoundClip};
+pub use line::refusal_text;
 pub use project::Project;
 pub use read::read_project;
 pub use refusal::ProjectRefusal;
-pub use line::refusal_text;
 pub use texts::TextRule;

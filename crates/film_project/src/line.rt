@@ -40,12 +40,7 @@ fn named(alloc: Global, code: &[u8], name: &Bytes) -> Result<Bytes, AllocError>
     Ok(Bytes::from(text))
 }
 
-fn numbered(
-    alloc: Global,
-    code: &[u8],
-    name: &Bytes,
-    number: u64,
-) -> Result<Bytes, AllocError>
+fn numbered(alloc: Global, code: &[u8], name: &Bytes, number: u64) -> Result<Bytes, AllocError>
     ensures { IfOk result (λ text. text ≡ code.now ++ (name.now ++ (codes " " ++ decimal number))) }
 {
     let mut text = Vec::from_slice(alloc, code)?;

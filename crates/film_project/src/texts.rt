@@ -174,11 +174,8 @@ fn meaning_place(rule: TextRule, text: &str) -> Option<usize>
         TextRule::ContentKind => word_place(is_content_kind(text)),
         TextRule::AssetKind => word_place(is_asset_kind(text)),
         TextRule::Issued => date_place(text),
-        TextRule::Title
-        | TextRule::Namespace
-        | TextRule::Id
-        | TextRule::File
-        | TextRule::AnyText => None,
+        TextRule::Title | TextRule::Namespace | TextRule::Id | TextRule::File | TextRule::AnyText =>
+            None,
     }
 }
 
