@@ -498,12 +498,17 @@ fn what_is_accepted(rt: HostRuntime) -> Result<(), Fail> {
     Ok(())
 }
 
+fn spaces(alloc: Global, times: usize) -> Result<Vec<u8>, AllocError> {
+    vec![in alloc; b' '; times]
+}
+
 #[test]
 fn texts_that_are_long_or_no_text(rt: HostRuntime) -> Result<(), Fail> {
     let alloc = rt.alloc();
-    let long = vec![in alloc; b' '; 8_388_609]?;
-    assert!(rt; told(alloc, &long)?.as_slice() == b"P11 8388609".as_slice());
-    assert!(rt; told(alloc, &long[..8_388_608])?.as_slice() == b"P1".as_slice());
+    let too_long = spaces(alloc, 8_388_609)?;
+    assert!(rt; told(alloc, &too_long)?.as_slice() == b"P11 8388609".as_slice());
+    let longest = spaces(alloc, 8_388_608)?;
+    assert!(rt; told(alloc, &longest)?.as_slice() == b"P1".as_slice());
     assert!(rt; told(alloc, b"{\"a\":\"\xFF\"}")?.as_slice() == b"P1".as_slice());
     Ok(())
 }
