@@ -1,7 +1,32 @@
-//! The project file: what it says, and why it is refused.
+//! The project file: read, refused by name and printed canonically.
 #![tactic(auto)]
 
+mod asset;
+mod assets;
+mod canonical;
+mod clip;
+mod clips;
 mod first;
 mod first_members;
+mod gains;
+mod line;
+mod member;
+mod object;
+mod place;
+mod project;
+mod read;
+mod refusal;
+mod texts;
 
+pub use asset::{Asset, AssetKind};
+pub use canonical::project_text;
+pub use clip::{Gain, PictureClip, SoundClip};
 pub use first::{First, FirstRefusal, read_first};
+pub use line::refusal_text;
+pub use project::Project;
+pub use read::read_project;
+pub use refusal::ProjectRefusal;
+pub use texts::TextRule;
+
+#[cfg(test)]
+mod tests;

@@ -1,0 +1,13 @@
+pub mod Walks
+pub mod Ids
+pub mod Kept
+pub mod Namespaces
+pub mod Whole
+pub mod Ascii
+pub mod Back
+pub mod BackClips
+pub mod BackTop
+pub mod Shape
+pub mod Size
+pub mod Sizes
+pub mod Printed

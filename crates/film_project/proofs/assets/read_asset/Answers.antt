@@ -1,0 +1,6 @@
+use Rattle.std.proofs.Common.{◌≡◌, ◌≢◌, All, sym, ap, ◌∙◌, subst}
+use Rattle.film_project.proofs.assets.read_asset.Goals as goal
+
+pub returns-clause-new : goal.returns-clause-new
+returns-clause-new c =
+    rw c.in_ok-copy_of.ensures (rw c.as_bytes-2.ensures.value (rw c.as_bytes.ensures.value at (c.has_id.ensures.absent c.if-has_id.false)))

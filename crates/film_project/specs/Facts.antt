@@ -1,0 +1,45 @@
+-- The plain values of a project.
+use Rattle.std.specs.Prelude.{ℕ, List}
+use Rattle.film_project.specs.declared.asset.AssetKind.{AssetKind}
+
+pub record AssetFacts : Type 0 where
+  pub id : List ℕ
+  pub kind : AssetKind
+  pub file : List ℕ
+  pub channels : ℕ
+
+-- `asset` is the place in the list of assets
+pub record PictureFacts : Type 0 where
+  pub asset : ℕ
+  pub at : ℕ
+  pub from : ℕ
+  pub count : ℕ
+  pub hold : ℕ
+
+pub record GainFacts : Type 0 where
+  pub from : ℕ
+  pub to : ℕ
+  pub gain : ℕ
+
+pub record SoundFacts : Type 0 where
+  pub asset : ℕ
+  pub at : ℕ
+  pub from : ℕ
+  pub count : ℕ
+  pub gains : List GainFacts
+
+pub record ProjectFacts : Type 0 where
+  pub title : List ℕ
+  pub kind : List ℕ
+  pub issued : List ℕ
+  pub namespace : List ℕ
+  pub width : ℕ
+  pub height : ℕ
+  pub fps : ℕ
+  pub rate : ℕ
+  pub power : ℕ
+  pub channels : ℕ
+  pub frames : ℕ
+  pub assets : List AssetFacts
+  pub picture : List PictureFacts
+  pub sound : List SoundFacts
