@@ -1,4 +1,4 @@
--- Sub-bands: ITU-T T.800 Annex B.5 (sizes), Annex E.1 (steps and bit-planes) and Annex B.6 (resolutions).
+-- Sub-bands: ITU-T T.800 Annex B.5 (resolutions and sizes) and Annex E.1 (steps and bit-planes).
 -- The exponents and mantissas, the ranks and what a cut keeps are this project's own.
 --     band_columns shape band, band_rows shape band    the size of a sub-band
 --     exponent band, mantissa band, step band          its quantisation

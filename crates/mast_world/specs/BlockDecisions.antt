@@ -2,7 +2,8 @@
 --     plane_count block          the number of bit-planes from the highest that isn't zero down
 --     plane_decisions block p    those of bit-plane p
 --     decisions block p          those of the bit-planes from the highest down to p
--- Each decision is a function of the values and of the set of samples that are significant before it.
+-- What is coded of a sample, and in which context, follows from the block's values and from the samples that
+-- became significant or were visited before.
 use Rattle.std.specs.Prelude.{ℕ, zero, suc, ◌+◌, ◌-◌, ◌*◌, ◌/◌, ◌^◌, ◌%◌, ◌==◌, max, Bool, true, false, not, ◌&&◌, if◌then◌else◌, nat_le, List, [], ◌∷◌, ◌++◌, map, length, drop, replicate, slice_index, slice_index_or, ℤ, pos, unsigned_abs, Option, Some, None, fold, position}
 use Rattle.std.specs.Int.{is_negative}
 use Rattle.std.specs.List.{flat_map, list_all}

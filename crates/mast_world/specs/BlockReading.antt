@@ -1,6 +1,6 @@
 -- The values of a code-block from its codeword: ITU-T T.800 Annex D, in the decoder's direction.
---     block_read kind width height planes passes codeword     the values that so many passes give, where
---         the first has the highest of so many planes
+--     block_read area planes passes codeword     the values that so many passes give, where the first has
+--         the highest of so many planes
 use Rattle.std.specs.Prelude.{ℕ, zero, suc, ◌+◌, ◌-◌, ◌*◌, ◌/◌, ◌^◌, ◌%◌, ◌==◌, Bool, false, not, ◌&&◌, if◌then◌else◌, List, map, length, drop, slice_index, slice_set, replicate, ℤ, pos, neg_ℤ, fold, zip}
 use Rattle.std.specs.Int.{from_bool}
 use Rattle.std.specs.List.{list_all, range_with_len}

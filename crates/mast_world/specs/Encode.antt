@@ -1,5 +1,5 @@
 -- From a picture's raw bytes to its codestream.
---     coefficients width height power raw    the quantised coefficients
+--     coefficients shape power raw           the quantised coefficients
 --     task_cut task, encoding task           the cut and the codestream of a task
 --     kept_coefficients shape cut q          what of coefficients q is kept at a cut
 use Rattle.std.specs.Prelude.{ℕ, ◌^◌, Bool, if◌then◌else◌, List, [], ◌∷◌, map, slice_index_or, ℤ}

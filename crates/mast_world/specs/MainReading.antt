@@ -48,7 +48,8 @@ marker_at bytes allowed at =
 
 -- ---- segments, from behind their marker
 
--- the picture, which is also the one tile, and three components of 12 bits (Annex A.5.1)
+-- The picture, which is also the one tile, and three components of 12 bits (Annex A.5.1): Lsiz, Rsiz, Xsiz,
+-- Ysiz, XOsiz, YOsiz, XTsiz, YTsiz, XTOsiz, YTOsiz, Csiz, and Ssiz, XRsiz and YRsiz of each component.
 abbrev pub size_rules : ℕ → ℕ → List FieldRule
 size_rules width height =
     fixed 2 0x2F ∷ fixed 2 3 ∷ within 4 32 2048 ∷ within 4 32 1080 ∷ fixed 4 0 ∷ fixed 4 0
@@ -56,14 +57,15 @@ size_rules width height =
     ∷ fixed 1 11 ∷ fixed 1 1 ∷ fixed 1 1 ∷ fixed 1 11 ∷ fixed 1 1 ∷ fixed 1 1 ∷ fixed 1 11 ∷ fixed 1 1
     ∷ fixed 1 1 ∷ []
 
--- Annex A.6.1
+-- Annex A.6.1: Lcod, Scod, then progression order, layers and component transform, then levels, width, height
+-- and style of code-blocks, filter, and precincts of each resolution
 abbrev pub coding_rules : List FieldRule
 coding_rules =
     fixed 2 0x12 ∷ fixed 1 1 ∷ fixed 1 4 ∷ fixed 2 1 ∷ fixed 1 1 ∷ fixed 1 5 ∷ fixed 1 3 ∷ fixed 1 3
     ∷ fixed 1 0 ∷ fixed 1 0
     ∷ fixed 1 0x77 ∷ fixed 1 0x88 ∷ fixed 1 0x88 ∷ fixed 1 0x88 ∷ fixed 1 0x88 ∷ fixed 1 0x88 ∷ []
 
--- Annex A.6.4 and equation E-2: the bit-planes of a sub-band are the guard bits and its exponent less 1
+-- Equation E-2: the bit-planes of a sub-band are the guard bits and its exponent less 1
 abbrev pub planes_of : ℕ → ℕ → ℕ
 planes_of guard_bits entry = guard_bits + entry / 2048 - 1
 
@@ -73,16 +75,19 @@ guard_rule = record { size = 1; accepts = λ n. (n % 32 == 2) && nat_le 1 (n / 3
 abbrev pub step_rule : ℕ → FieldRule
 step_rule guard_bits = record { size = 2; accepts = λ n. nat_le (planes_of guard_bits n) 31 }
 
+-- Annex A.6.4: Lqcd, Sqcd with the number of guard bits above the style 2 (each sub-band states its step), then
+-- SPqcd of each sub-band
 abbrev pub quantisation_rules : ℕ → List FieldRule
 quantisation_rules guard_bits = fixed 2 0x23 ∷ guard_rule ∷ replicate 16 (step_rule guard_bits)
 
--- Annex A.7.1
+-- Annex A.7.1: Ltlm, Ztlm, Stlm, then Ttlm and Ptlm of each tile-part
 abbrev pub lengths_rules : List FieldRule
 lengths_rules =
     fixed 2 0x13 ∷ fixed 1 0 ∷ fixed 1 0x50 ∷ fixed 1 0 ∷ any_value 4 ∷ fixed 1 0 ∷ any_value 4 ∷ fixed 1 0
     ∷ any_value 4 ∷ []
 
--- what was read so far; the number of bit-planes and the lengths are those of the last segment of their kind
+-- what the segments so far say: whether there was one for the coding, the numbers of bit-planes, the lengths of
+-- the tile-parts, and the cut that a comment states
 pub record HeadSoFar : Type 0 where
   pub shape : Shape
   pub coded : Bool
@@ -134,8 +139,8 @@ module _ (bytes : List ℕ) where
       else if marker == 0xFF55 then record head { parts = Some (parts_at at) }
       else record head { cut = cut_with head.cut at }
 
-  -- COD, QCD and TLM stand once each, in any order, with any number of comments; then the first tile-part
-  -- begins
+  -- Each of COD, QCD and TLM comes exactly once, their order is free, and comments may stand before and behind
+  -- them. Then the first tile-part begins.
   abbrev pub is_complete : HeadSoFar → Bool
   is_complete head = head.coded && is_some head.planes && is_some head.parts
 

@@ -34,7 +34,7 @@ head_step (Err e) = Err (Head e)
 
 -- ---- packets of a component
 
--- sub-bands number their bit-planes as in each component alike
+-- the numbers of bit-planes stand in the order of a component's sub-bands, and are the same in each component
 abbrev pub band_shape : MainHead → ℕ → Band → BandShape
 band_shape head precinct band =
     let area = blocks_in head.shape band precinct in
@@ -53,10 +53,10 @@ packets_read bytes head component (precinct ∷ precincts) at =
     on_ok (packets_read bytes head component precincts r.next) (λ rest.
     Ok (r.bands ∷ rest.0, rest.1)))
 
--- ---- tile-parts (Annex A.4.2)
+-- ---- tile-parts (Annex A.4.2 to A.4.4)
 
--- A marker that isn't there at all, or is another one, is refused at the place where the packets end, and so before the part's
--- length. A marker of which one byte is there is refused behind that byte, and so after it.
+-- A marker that isn't there at all, or is another one, is refused at the place where the packets end, and so
+-- before the part's length. A marker of which one byte is there is refused behind that byte, and so after it.
 unfoldable pub tile_part_end : List ℕ → ℕ → ℕ → ℕ → ℕ → ℕ → Result ℕ ReadRefusal
 tile_part_end bytes component len start marker at =
     if length bytes == suc at && is_other_length then Err (PartLength component len)
@@ -73,7 +73,7 @@ marker_behind component = if component == 2 then 0xFFD9 else 0xFF90
 abbrev pub stated_length : MainHead → ℕ → ℕ
 stated_length head component = slice_index head.parts component
 
--- from behind the marker SOT up to the packets
+-- from behind the marker SOT up to the packets: Lsot, Isot, Psot, TPsot, TNsot, then the marker SOD
 abbrev pub tile_part_start : List ℕ → MainHead → ℕ → ℕ → Result ℕ MarkerRefusal
 tile_part_start bytes head component at =
     on_ok (fields_end bytes (fixed 2 10 ∷ fixed 2 0 ∷ fixed 4 (stated_length head component)

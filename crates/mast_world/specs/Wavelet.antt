@@ -4,7 +4,7 @@
 --     lifted k parity line      the line after one lifting step
 --     transformed_line line     a line after its five steps, low samples first
 --     level rows                an area after one level: columns, rows, clamp
---     transformed n rows        an area after n levels, its low-low part in the upper left corner
+--     transformed n columns rows area    an area after n levels, its low-low part in the upper left corner
 use Rattle.std.specs.Prelude.{ℕ, zero, suc, ◌-◌, ◌^◌, ◌%◌, ◌==◌, if◌then◌else◌, List, [], ◌∷◌, ◌++◌, map, length, slice_index_or, ℤ, pos, ◌+ℤ◌, ◌-ℤ◌, ◌*ℤ◌, neg_ℤ}
 use Rattle.std.specs.Int.{int_shr, int_min, int_max, div_ceil}
 use Rattle.std.specs.List.{range_with_len}
@@ -80,7 +80,7 @@ transformed_line line =
     map (scaled (pos 53274)) (even_samples (four_steps line))
     ++ map (scaled (pos 80621)) (odd_samples (four_steps line))
 
--- ---- levels (Annex F.4.2 to F.4.4); an area is a grid of samples
+-- ---- levels (Annex F.4.2 to F.4.5); an area is a grid of samples
 
 abbrev pub clamped : ℤ → ℤ
 clamped v = int_max (neg_ℤ (pos (2 ^ 26))) (int_min v (pos (2 ^ 26)))

@@ -39,12 +39,12 @@ pub struct PacketRead {
 pub enum HeadRefusal {
     /// A wanted header byte isn't there; `at` is the number of bytes.
     Truncated { at: usize },
-    /// The byte behind an FF has its top bit set.
+    /// A byte that follows FF isn't below 80.
     BadStuffing { at: usize },
     /// The zero planes reach the number of bit-planes, with `n` 0, or there are `n` passes and
     /// the other bit-planes have fewer.
     TooManyPasses { at: usize, n: u32 },
-    /// A codeword of `n` bytes goes past the end.
+    /// The bytes end before a codeword of `n` bytes, which begins at `at`, does.
     LengthPast { at: usize, n: u32 },
     /// A length field has `n` bits, which are more than 32.
     WideLength { at: usize, n: u64 },
