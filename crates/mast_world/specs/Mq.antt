@@ -317,7 +317,7 @@ unfoldable pub is_quiet : ℕ → Reading → Bool
 is_quiet qe r = not (is_lower qe r) && nat_le 0x8000 (r.a - qe)
 
 unfoldable pub state_after : ℕ → Reading → State → State
-state_after qe r s = if is_quiet qe r then s else (if read_is_mps qe r then after_mps s else after_lps s)
+state_after qe r s = if read_is_mps qe r then after_mps s else after_lps s
 
 -- the bit that a decoder gives in a context
 unfoldable pub decoded_bit : Decoder → ℕ → Bool
@@ -326,11 +326,15 @@ decoded_bit d context =
     then (state_at d.states context).mps
     else not (state_at d.states context).mps
 
+unfoldable pub states_read : ℕ → Reading → List State → ℕ → List State
+states_read qe r states context =
+    if is_quiet qe r then states else slice_set states context (state_after qe r (state_at states context))
+
 unfoldable pub decoder_after : Decoder → ℕ → Decoder
 decoder_after d context =
     record {
       reading = renormalised_reading 15 (part_read (qe_of (state_at d.states context)) d.reading);
-      states = slice_set d.states context (state_after (qe_of (state_at d.states context)) d.reading (state_at d.states context));
+      states = states_read (qe_of (state_at d.states context)) d.reading d.states context;
     }
 
 unfoldable pub decoded_from : Decoder → List ℕ → List Bool

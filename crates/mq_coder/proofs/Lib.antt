@@ -1,3 +1,4 @@
 pub mod Numbers
 pub mod Ahead
 pub mod Sound
+pub mod Steps
