@@ -2,3 +2,4 @@ pub mod Numbers
 pub mod Ahead
 pub mod Sound
 pub mod Steps
+pub mod Decisions
