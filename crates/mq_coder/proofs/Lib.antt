@@ -3,3 +3,4 @@ pub mod Ahead
 pub mod Sound
 pub mod Steps
 pub mod Decisions
+pub mod Flush

@@ -59,6 +59,7 @@ pub record Out (before : List ℕ) (a c w : ℕ) (r : Registers) : Type 0 where
   pub all : (x : ℕ) → Clean (x ∷ bs) → room (x ∷ bs) ≡ R
   pub room_b : room (b ∷ bs) ≡ R
   pub worth : 2 ^ h ≡ S
+  pub sizes : (S ≡ 0x80000) ⊎ (S ≡ 0x100000)
   pub product : R * S ≡ 2 ^ 27
   pub below : r.c < S
   pub same : num before * 2 ^ 27 + c ≡ num bs * 2 ^ 27 + b * S + r.c
@@ -95,6 +96,7 @@ out-stuffed before bs a c c1 ct w f ff =
       all = λ x k. room-stuffed x bs ff (clean-top x bs k ff);
       room_b = room-stuffed (c1 / 0x100000) bs ff top;
       worth = refl;
+      sizes = inr refl;
       product = refl;
       below = omega arith;
       same = omega (arith, f.value);
@@ -129,6 +131,7 @@ out-whole before bs a c c1 c2 ct w f ff low =
       all = λ x _. room-whole x bs ff;
       room_b = room-whole (c2 / 0x80000 % 0x100) bs ff;
       worth = refl;
+      sizes = inl refl;
       product = refl;
       below = omega arith;
       same = omega (arith, f.value);
@@ -209,8 +212,8 @@ out-byte before a c ct w s narrow =
 
 -- going back over a byte
 pub ahead-byte :
-    (e : ℕ) (F : List ℕ) (u k w : ℕ) (before : List ℕ) (a c : ℕ) (r : Registers) (o : Out before a c w r) →
+    (e : ℕ) (F : List ℕ) (u k v w : ℕ) (before : List ℕ) (a c : ℕ) (r : Registers) (o : Out before a c v r) →
     Ahead e F u k o.h w r.bytes r.c r.ct → Ahead e F u (suc k) 27 w before c 0
-ahead-byte e F u k w before a c r o known =
+ahead-byte e F u k v w before a c r o known =
     ahead-out e F u k o.h w before o.bs c r.c o.b o.R o.S r.ct o.carried o.size o.all o.room_b o.worth o.product o.below o.same
     (subst (λ q. Ahead e F u k o.h w q r.c r.ct) o.shape known)

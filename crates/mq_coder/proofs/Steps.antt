@@ -79,7 +79,7 @@ known-doubled' e F u a c zero bytes s few low known =
       k = suc known.k;
       h = 26;
       ahead = ahead-double e F u (suc known.k) 26 a bytes c 0
-        (ahead-byte e F u known.k (2 * a) bytes (2 * a) (2 * c) r o a2);
+        (ahead-byte e F u known.k (2 * a) (2 * a) bytes (2 * a) (2 * c) r o a2);
     }
 known-doubled' e F u a c (suc n) bytes s few low known =
     let k1 : Known e F u (regs (2 * a) (2 * c) (suc n) bytes) = rw doubled-quiet at known in
