@@ -4,3 +4,4 @@ pub mod Sound
 pub mod Steps
 pub mod Decisions
 pub mod Flush
+pub mod Tracking
