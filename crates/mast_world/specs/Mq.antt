@@ -7,6 +7,14 @@ pub record Decision : Type 0 where
   pub context : ℕ
   pub bit : Bool
 
+abbrev pub contexts_of : List Decision → List ℕ
+contexts_of [] = []
+contexts_of (d ∷ ds) = d.context ∷ contexts_of ds
+
+abbrev pub bits_of : List Decision → List Bool
+bits_of [] = []
+bits_of (d ∷ ds) = d.bit ∷ bits_of ds
+
 -- ---- how probabilities are estimated (C.2.5)
 
 -- a row of Table C.2: the probability of the less probable symbol, the next row after each symbol,

@@ -14,6 +14,10 @@ unfolding Clean behind
 clean-behind [] h = tt
 clean-behind (b ∷ bs) h = h.2
 
+pub clean-tail : (b : ℕ) (bs : List ℕ) → Clean (b ∷ bs) → Clean bs
+unfolding Clean
+clean-tail b bs h = h.2
+
 pub clean-top : (b : ℕ) (bs : List ℕ) → Clean (b ∷ bs) → last_byte bs ≡ 0xFF → b ≤ 0x8F
 unfolding Clean
 clean-top b bs h = h.1

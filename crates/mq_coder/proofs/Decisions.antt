@@ -243,6 +243,13 @@ unfoldable pub states_coded : Bool → ℕ → State → List State → ℕ → 
 states_coded m a s states k =
     cond (m && nat_le 0x8000 (a - qe_of s)) states (slice_set states k (cond m (after_mps s) (after_lps s)))
 
+pub states_coded-is :
+    (m : Bool) (a : ℕ) (s : State) (states : List State) (k : ℕ) →
+    cond (m && nat_le 0x8000 (a - qe_of s)) states (slice_set states k (cond m (after_mps s) (after_lps s))) ≡
+    states_coded m a s states k
+unfolding states_coded
+states_coded-is m a s states k = refl
+
 states-by :
     (m : Bool) (e : Encoder) (k : ℕ) (s : State) →
     (cond m (mps_coded e k s) (lps_coded e k s)).states ≡ states_coded m e.registers.a s e.states k

@@ -5,3 +5,4 @@ pub mod Steps
 pub mod Decisions
 pub mod Flush
 pub mod Tracking
+pub mod ReadBack

@@ -53,7 +53,7 @@ pub record Within (v w d n : ℕ) : Type 0 where
 
 pub within :
     (e : ℕ) (F : List ℕ) (u k h w : ℕ) (bytes : List ℕ) (c ct d j : ℕ) (q : List ℕ) →
-    Ahead e F u k h w bytes c ct → ct ≤ 12 → prefix F j ≡ q → unit e F j * 2 ^ d ≡ u →
+    Ahead e F u k h w bytes c ct → ct ≤ 26 → prefix F j ≡ q → unit e F j * 2 ^ d ≡ u →
     Within (num bytes * 2 ^ h + c) w d (num q)
 within e F u k h w bytes c ct d j q a few at place =
     record {
@@ -83,13 +83,13 @@ within e F u k h w bytes c ct d j q a few at place =
 
 -- ---- a byte
 
-record Next (rest s : List ℕ) (m : ℕ) : Type 0 where
-  m' : ℕ
-  s' : List ℕ
-  shape : s ≡ next_byte rest ∷ s'
-  after : s' ≡ behind rest ++ replicate m' 0xFF
+pub record Next (rest s : List ℕ) (m : ℕ) : Type 0 where
+  pub m' : ℕ
+  pub s' : List ℕ
+  pub shape : s ≡ next_byte rest ∷ s'
+  pub after : s' ≡ behind rest ++ replicate m' 0xFF
 
-next-of : (rest s : List ℕ) (m : ℕ) → s ≡ rest ++ replicate m 0xFF → 0 < length s → Next rest s m
+pub next-of : (rest s : List ℕ) (m : ℕ) → s ≡ rest ++ replicate m 0xFF → 0 < length s → Next rest s m
 unfolding next_byte behind
 next-of [] s zero p pos = absurd (omega (arith, pos, ap length p))
 next-of [] s (suc m) p pos = record { m' = m; s' = replicate m 0xFF; shape = p; after = refl }
@@ -100,12 +100,12 @@ unfolding CleanAfter next_byte
 clean-after p [] c high ff = refl
 clean-after p (b ∷ rest) c high ff = absurd (omega (arith, c.0 ff))
 
-clean-next : (p : ℕ) (rest : List ℕ) → CleanAfter p rest → CleanAfter (next_byte rest) (behind rest)
+pub clean-next : (p : ℕ) (rest : List ℕ) → CleanAfter p rest → CleanAfter (next_byte rest) (behind rest)
 unfolding CleanAfter next_byte behind
 clean-next p [] c = tt
 clean-next p (b ∷ rest) c = c.1
 
-last-cons : (b : ℕ) (q : List ℕ) → last_byte (b ∷ q) ≡ b
+pub last-cons : (b : ℕ) (q : List ℕ) → last_byte (b ∷ q) ≡ b
 unfolding last_byte
 last-cons b q = refl
 
@@ -120,7 +120,7 @@ fill-behind rest p = ap behind p
 -- one byte more is read: R is its room, 2 ^ x its place in the register
 pub tracks-byte :
     (e : ℕ) (F : List ℕ) (u : ℕ) (r : Registers) (t t' : Reading) (R x n : ℕ) →
-    e < 256 → r.ct ≤ 12 → r.a < 2 ^ 16 → (k : Tracks e F u r t) → t.ct ≡ 0 →
+    e < 256 → r.ct ≤ 26 → r.a < 2 ^ 16 → (k : Tracks e F u r t) → t.ct ≡ 0 →
     t'.a ≡ t.a → t'.c ≡ (t.c + next_byte t.rest * 2 ^ x) % 2 ^ 32 → t'.ct ≡ n →
     t'.current ≡ next_byte t.rest → t'.rest ≡ behind t.rest →
     room (next_byte t.rest ∷ k.q) ≡ R → 2 ^ n ≡ R → 2 ^ x * R ≡ 2 ^ 16 →
@@ -186,9 +186,9 @@ tracks-byte e F u r t t' R x n small few narrow k at_zero is_a is_c is_ct is_cur
     exact : t'.c ≡ t.c + b * 2 ^ x
     exact = is_c ∙ mod-eq_of_lt (omega (arith, fits, narrow))
 
-tracks-in' :
+pub tracks-in' :
     (e : ℕ) (F : List ℕ) (u : ℕ) (r : Registers) (t : Reading) →
-    e < 256 → r.ct ≤ 12 → r.a < 2 ^ 16 → Tracks e F u r t → t.ct ≡ 0 →
+    e < 256 → r.ct ≤ 26 → r.a < 2 ^ 16 → Tracks e F u r t → t.ct ≡ 0 →
     Tracks e F u r (byte_in t) × (0 < (byte_in t).ct)
 unfolding byte_in marker_in stuffed_byte_in whole_byte_in add_bits
 tracks-in' e F u r t small few narrow k at_zero =
@@ -217,7 +217,7 @@ tracks-in' e F u r t small few narrow k at_zero =
 
 pub tracks-in :
     (e : ℕ) (F : List ℕ) (u : ℕ) (r : Registers) (t : Reading) →
-    e < 256 → r.ct ≤ 12 → r.a < 2 ^ 16 → Tracks e F u r t →
+    e < 256 → r.ct ≤ 26 → r.a < 2 ^ 16 → Tracks e F u r t →
     Tracks e F u r (in_at_zero t) × (0 < (in_at_zero t).ct)
 unfolding in_at_zero
 tracks-in e F u r t small few narrow k =
