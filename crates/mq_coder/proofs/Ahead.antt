@@ -1,13 +1,9 @@
 -- What is known at a moment of the encoder about the bytes that come out in the end: going back over doublings, bytes and decisions.
-use Rattle.std.proofs.Common.{◌≡◌, ℕ, zero, suc, ◌+◌, ◌-◌, ◌*◌, ◌/◌, ◌%◌, ◌^◌, ◌<◌, ◌≤◌, ◌≢◌, ◌⊎◌, Bool, true, false, List, [], ◌∷◌, ◌++◌, length, refl, sym, ap, subst, ◌∙◌, inl, inr, arith, mul-le-mul_right, mul-le-mul_left, pow-suc}
-use Rattle.std.proofs.lemmas.Bool.{cases_lt, cases_order, cases_eq}
+use Rattle.std.proofs.Common.{◌≡◌, ℕ, suc, ◌+◌, ◌*◌, ◌^◌, ◌<◌, ◌≤◌, ◌⊎◌, List, [], ◌∷◌, length, refl, sym, ap, subst, ◌∙◌, inl, inr, arith, mul-le-mul_right, pow-suc}
+use Rattle.std.proofs.lemmas.Bool.{cases_eq}
 use Rattle.mast_world.specs.Mq.{last_byte, with_carry, behind}
-use Rattle.mq_coder.proofs.Numbers.{room, num, num-cons, num-carry, prefix, prefix-suc, behind-cons, unit, unit-suc, room-whole, room-stuffed}
-
--- a byte behind FF is at most 8F; the last byte first
-unfoldable pub Clean : List ℕ → Type 0
-Clean [] = Unit {0}
-Clean (b ∷ bs) = (b ≤ 0xFF) × (last_byte bs ≡ 0xFF → b ≤ 0x8F) × Clean bs
+use Rattle.mq_coder.specs.Ready.{Clean}
+use Rattle.mq_coder.proofs.Numbers.{room, num, num-cons, prefix, prefix-suc, behind-cons, unit, unit-suc}
 
 pub clean-behind : (bs : List ℕ) → Clean bs → Clean (behind bs)
 unfolding Clean behind

@@ -1,11 +1,12 @@
 -- The encoder's renormalisation and decisions, seen from before and from behind.
-use Rattle.std.proofs.Common.{◌≡◌, ℕ, zero, suc, ◌+◌, ◌-◌, ◌*◌, ◌/◌, ◌%◌, ◌^◌, ◌<◌, ◌≤◌, ◌≢◌, ◌⊎◌, Bool, true, false, not, cond, ◌&&◌, List, [], ◌∷◌, ◌++◌, length, refl, sym, ap, subst, ◌∙◌, inl, inr, arith, pow-suc, get_or}
+use Rattle.std.proofs.Common.{◌≡◌, ℕ, zero, suc, ◌+◌, ◌-◌, ◌*◌, ◌^◌, ◌<◌, ◌≤◌, Bool, true, false, not, cond, ◌&&◌, List, [], ◌∷◌, refl, sym, subst, arith, pow-suc, get_or}
 use Rattle.std.specs.Prelude.{nat_lt, nat_le, slice_set}
-use Rattle.std.proofs.lemmas.Bool.{cond_both, ltb-true, ltb-false, leb-true, leb-false, and_parts, cond-true, cond-false, le-ltb, lt-ltb, le-leb, lt-leb}
+use Rattle.std.proofs.lemmas.Bool.{cond_both, ltb-true, ltb-false, leb-true, and_parts, le-ltb}
 use Rattle.mast_world.specs.Mq.{Registers, Row, row, row_at, State, qe_of, after_mps, after_lps, probabilities, doubled, renormalised, lower_part, upper_part, mps_part, lps_part, Encoder, Decision, mps_coded, lps_coded, coded_one, coded_from, is_mps, state_at}
-use Rattle.mq_coder.proofs.Ahead.{Ahead, ahead-part}
-use Rattle.mq_coder.proofs.Sound.{Sound, sound-part}
-use Rattle.mq_coder.proofs.Steps.{Valid, Ready, Known, valid-doubled, known-doubled, doubled-width}
+use Rattle.mq_coder.proofs.Ahead.{ahead-part}
+use Rattle.mq_coder.specs.Ready.{Valid, Ready}
+use Rattle.mq_coder.proofs.Sound.{sound-part}
+use Rattle.mq_coder.proofs.Steps.{Known, valid-doubled, known-doubled, doubled-width}
 
 -- ---- renormalisation
 

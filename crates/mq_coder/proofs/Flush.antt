@@ -1,14 +1,15 @@
 -- The flush: the bytes that it gives, followed by FF for ever, stand for a number of the last interval.
-use Rattle.std.proofs.Common.{◌≡◌, ℕ, zero, suc, ◌+◌, ◌-◌, ◌*◌, ◌/◌, ◌%◌, ◌^◌, ◌<◌, ◌≤◌, ◌≢◌, ◌⊎◌, Bool, true, false, cond, List, [], ◌∷◌, length, refl, sym, ap, subst, ◌∙◌, inl, inr, arith, pow-suc, pow-add, pow_pos, pow_mono, mul-le-mul_right, mul-le-mul_left}
+use Rattle.std.proofs.Common.{◌≡◌, ℕ, suc, ◌+◌, ◌-◌, ◌*◌, ◌/◌, ◌%◌, ◌^◌, ◌<◌, ◌≤◌, ◌⊎◌, List, ◌∷◌, refl, sym, ap, subst, ◌∙◌, inl, inr, arith, pow-suc, pow-add, pow_pos, pow_mono, mul-le-mul_right, mul-le-mul_left}
 use Rattle.std.specs.Prelude.{nat_lt, bit_or}
 use Rattle.std.proofs.lemmas.Bool.{cond_both, ltb-true, ltb-false, cases_eq}
 use Rattle.std.proofs.lemmas.Nat.{or_block, le_or_r, or_of_16}
 use Rattle.std.specs.Int.Bits.{or_zero_r}
-use Rattle.mast_world.specs.Mq.{Registers, low_ones, bits_set, shifted_out, byte_out, behind}
+use Rattle.mast_world.specs.Mq.{Registers, low_ones, bits_set, shifted_out, behind}
 use Rattle.mq_coder.proofs.Numbers.{room, num, num-cons, behind-cons, prefix, prefix-suc, prefix-zero, unit, unit-suc, unit-zero, room-marker}
-use Rattle.mq_coder.proofs.Ahead.{Clean, Ahead, ahead-part}
-use Rattle.mq_coder.proofs.Sound.{Carries, Sound, sound-part, Out, out-byte, ahead-byte}
-use Rattle.mq_coder.proofs.Steps.{Valid, Ready, Known}
+use Rattle.mq_coder.proofs.Ahead.{Ahead, ahead-part}
+use Rattle.mq_coder.proofs.Sound.{sound-part, Out, out-byte, ahead-byte}
+use Rattle.mq_coder.proofs.Steps.{Known}
+use Rattle.mq_coder.specs.Ready.{Clean, Carries, Sound, Ready}
 
 -- ---- the value that is flushed
 

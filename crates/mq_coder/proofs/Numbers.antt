@@ -1,9 +1,9 @@
 -- The number that a codeword stands for: a byte behind FF adds seven bits, every other one eight.
 -- Lists of bytes have the last byte first.
-use Rattle.std.proofs.Common.{◌≡◌, ℕ, zero, suc, ◌+◌, ◌-◌, ◌*◌, ◌/◌, ◌%◌, ◌^◌, ◌<◌, ◌≤◌, ◌≢◌, ◌⊎◌, Bool, true, false, cond, ◌&&◌, List, [], ◌∷◌, ◌++◌, length, refl, sym, ap, subst, ◌∙◌, inl, inr, arith, mul-le-mul_right, mul-le-mul_left}
-use Rattle.std.specs.Prelude.{◌==◌, nat_le, nat_lt, if◌then◌else◌}
-use Rattle.std.proofs.lemmas.Bool.{cond_both, cond-true, cond-false, eqb-true, eqb-false, leb-true, leb-false, and_parts, and_from, and_left, eq-eqb, ne_eqb, le-leb, cases_lt}
-use Rattle.mast_world.specs.Mq.{last_byte, with_carry, behind}
+use Rattle.std.proofs.Common.{◌≡◌, ℕ, zero, suc, ◌+◌, ◌-◌, ◌*◌, ◌<◌, ◌≤◌, ◌≢◌, cond, ◌&&◌, List, [], ◌∷◌, refl, subst, inl, inr, arith, mul-le-mul_left}
+use Rattle.std.specs.Prelude.{◌==◌, nat_le}
+use Rattle.std.proofs.lemmas.Bool.{cond_both, cond-true, cond-false, leb-true, and_parts, and_from, and_left, eq-eqb, ne_eqb, le-leb, cases_lt}
+use Rattle.mast_world.specs.Mq.{last_byte, behind}
 
 -- how many values the last byte has room for
 unfoldable pub room : List ℕ → ℕ

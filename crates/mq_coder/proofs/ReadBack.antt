@@ -1,18 +1,18 @@
 -- The law of reading back: the decoder gives the bits of the decisions whose codeword it reads.
-use Rattle.std.proofs.Common.{◌≡◌, ℕ, zero, suc, ◌+◌, ◌-◌, ◌*◌, ◌/◌, ◌%◌, ◌^◌, ◌<◌, ◌≤◌, ◌≢◌, ◌⊎◌, Bool, true, false, not, cond, ◌&&◌, List, [], ◌∷◌, ◌++◌, replicate, reverse, length, refl, sym, ap, subst, ◌∙◌, inl, inr, arith, pow-suc, pow-add, pow_pos, pow_mono, mul-le-mul_right, mul-le-mul_left, mod-eq_of_lt}
+use Rattle.std.proofs.Common.{◌≡◌, ℕ, zero, suc, ◌+◌, ◌-◌, ◌*◌, ◌/◌, ◌%◌, ◌^◌, ◌<◌, ◌≤◌, ◌≢◌, Bool, true, false, not, cond, ◌&&◌, List, [], ◌∷◌, ◌++◌, replicate, reverse, length, refl, sym, ap, subst, ◌∙◌, inl, inr, arith, pow-suc, pow-add, pow_pos, mod-eq_of_lt}
 use Rattle.std.proofs.lemmas.List.{reverse-reverse}
 use mathlib.Core.List.{reverse_aux}
 use Rattle.std.specs.Prelude.{◌==◌, nat_lt, nat_le, slice_set}
 use Rattle.std.proofs.Math.Nat.{lt_of_mul-lt-mul_right}
-use Rattle.std.proofs.lemmas.Bool.{cond_both, cond-true, cond-false, eqb-true, eqb-false, ltb-true, ltb-false, leb-true, leb-false, cases_eq, eq-eqb, ne_eqb, lt-ltb, le-ltb, le-leb, lt-leb}
-use Rattle.mast_world.specs.Mq.{Registers, State, Encoder, Decision, contexts_of, bits_of, qe_of, after_mps, after_lps, state_at, is_mps, last_byte, behind, doubled, renormalised, lower_part, upper_part, coded_one, coded_from, coded, start, start_states, bits_set, shifted_out, without_last_ff, flushed_bytes, codeword, Reading, Decoder, next_byte, add_bits, marker_in, stuffed_byte_in, whole_byte_in, byte_in, in_at_zero, read_on, renormalised_reading, is_lower, lower_reading, upper_reading, part_read, read_is_mps, is_quiet, state_after, states_read, decoded_bit, decoder_after, decoded_from, decoded, decoder_of, first_byte, shifted_in}
-use Rattle.mq_coder.proofs.Numbers.{room, num, num-cons, prefix, unit, unit-suc, unit-zero, room-whole}
-use Rattle.mq_coder.proofs.Ahead.{Clean, clean-tail, Ahead}
-use Rattle.mq_coder.proofs.Sound.{Carries, Sound}
-use Rattle.mq_coder.proofs.Steps.{Valid, Ready, Known, valid-doubled, known-doubled, doubled-value, doubled-width, known-unit, mul_cancel}
-use Rattle.mq_coder.proofs.Decisions.{renorm-zero, renorm-cases, renorm-done, renorm-more, known-renormalised, lower_kept, part_kept, part-cases, known-part, valid-part, ready-part, ready-coded_one, ready-coded_from, known-coded_from, coded-registers, coded-states, states_coded-is, states_coded, qe-positive, qe-small, coded_from-cons, coded_from-nil}
+use Rattle.std.proofs.lemmas.Bool.{cond_both, eqb-true, ltb-true, ltb-false, leb-true, cases_eq, lt-ltb, le-ltb}
+use Rattle.mast_world.specs.Mq.{Registers, State, Encoder, Decision, contexts_of, bits_of, qe_of, after_mps, after_lps, state_at, is_mps, last_byte, doubled, renormalised, lower_part, upper_part, coded_one, coded_from, coded, start, bits_set, shifted_out, without_last_ff, flushed_bytes, codeword, Reading, Decoder, next_byte, marker_in, stuffed_byte_in, whole_byte_in, byte_in, in_at_zero, read_on, renormalised_reading, is_lower, lower_reading, upper_reading, part_read, read_is_mps, is_quiet, state_after, states_read, decoded_bit, decoder_after, decoded_from, decoded, decoder_of, first_byte, shifted_in}
+use Rattle.mq_coder.proofs.Numbers.{room, num, prefix, unit, unit-suc, unit-zero, room-whole}
+use Rattle.mq_coder.proofs.Ahead.{clean-tail, Ahead}
+use Rattle.mq_coder.specs.Ready.{Clean, Carries, Valid, Ready}
+use Rattle.mq_coder.proofs.Steps.{Known, valid-doubled, known-doubled, doubled-value, doubled-width, known-unit, mul_cancel}
+use Rattle.mq_coder.proofs.Decisions.{renorm-zero, renorm-done, renorm-more, known-renormalised, lower_kept, part_kept, part-cases, known-part, valid-part, ready-coded_one, ready-coded_from, known-coded_from, coded-registers, coded-states, states_coded-is, states_coded, qe-small, coded_from-cons}
 use Rattle.mq_coder.proofs.Flush.{filled, Closed, closed}
-use Rattle.mq_coder.proofs.Tracking.{onto, onto-cons, prefix-onto, CleanAfter, Tracks, tracks-known, Within, within, tracks-in, tracks-in', last-cons, Next, next-of, clean-next}
+use Rattle.mq_coder.proofs.Tracking.{onto, onto-cons, prefix-onto, CleanAfter, Tracks, tracks-known, Within, within, tracks-in, tracks-in', Next, next-of, clean-next}
 
 -- ---- doublings
 

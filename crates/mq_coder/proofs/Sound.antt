@@ -1,26 +1,16 @@
 -- What holds of the encoder's registers at every moment, and what a byte that comes out is.
-use Rattle.std.proofs.Common.{◌≡◌, ℕ, zero, suc, ◌+◌, ◌-◌, ◌*◌, ◌/◌, ◌%◌, ◌^◌, ◌<◌, ◌≤◌, ◌≢◌, ◌⊎◌, Bool, true, false, cond, List, [], ◌∷◌, ◌++◌, length, refl, sym, ap, subst, ◌∙◌, inl, inr, arith, mul-le-mul_right, mul-le-mul_left, pow-suc}
-use Rattle.std.specs.Prelude.{◌==◌, nat_lt, if◌then◌else◌}
+use Rattle.std.proofs.Common.{◌≡◌, ℕ, suc, ◌+◌, ◌*◌, ◌/◌, ◌%◌, ◌^◌, ◌<◌, ◌≤◌, ◌≢◌, ◌⊎◌, List, [], ◌∷◌, length, refl, sym, subst, ◌∙◌, inl, inr, arith, mul-le-mul_right, pow-suc}
+use Rattle.std.specs.Prelude.{◌==◌, nat_lt}
 use Rattle.std.proofs.lemmas.Bool.{cond_both, eqb-true, eqb-false, ltb-true, ltb-false, cases_eq}
-use Rattle.mast_world.specs.Mq.{Registers, last_byte, with_carry, behind, byte_out, carried_byte_out, whole_byte_out, stuffed_byte_out, out_at_zero, doubled}
-use Rattle.mq_coder.proofs.Numbers.{room, num, num-cons, num-carry, prefix, unit, room-whole, room-stuffed}
-use Rattle.mq_coder.proofs.Ahead.{Clean, clean-top, with_carry-cons, Ahead, ahead-out, ahead-double}
-
--- a byte behind FF has room for what is still to come
-unfoldable pub Carries : List ℕ → ℕ → Type 0
-Carries [] n = n ≤ 0x8000000
-Carries (b ∷ bs) n = last_byte bs ≡ 0xFF → b * 0x8000000 + n ≤ 0x90 * 0x8000000
+use Rattle.mast_world.specs.Mq.{Registers, last_byte, with_carry, byte_out, carried_byte_out, whole_byte_out, stuffed_byte_out}
+use Rattle.mq_coder.proofs.Numbers.{room, num, num-carry, room-whole, room-stuffed}
+use Rattle.mq_coder.specs.Ready.{Clean, Carries, Sound}
+use Rattle.mq_coder.proofs.Ahead.{clean-top, Ahead, ahead-out}
 
 pub carries-less : (bs : List ℕ) (m n : ℕ) → m ≤ n → Carries bs n → Carries bs m
 unfolding Carries
 carries-less [] m n p h = omega arith
 carries-less (b ∷ bs) m n p h = λ q. omega (arith, h q)
-
-pub record Sound (w : ℕ) (bytes : List ℕ) (c ct : ℕ) : Type 0 where
-  pub positive : 0 < w
-  pub within : (c + w) * 2 ^ ct ≤ 0x9000000
-  pub carries : Carries bytes ((c + w) * 2 ^ ct)
-  pub clean : Clean bytes
 
 pub sound-part :
     (w w' : ℕ) (bytes : List ℕ) (c c' ct : ℕ) →

@@ -1,23 +1,12 @@
 -- The encoder's doublings and decisions: what holds of the registers after each, and going back over each.
-use Rattle.std.proofs.Common.{◌≡◌, ℕ, zero, suc, ◌+◌, ◌-◌, ◌*◌, ◌/◌, ◌%◌, ◌^◌, ◌<◌, ◌≤◌, ◌≢◌, ◌⊎◌, Bool, true, false, cond, ◌&&◌, List, [], ◌∷◌, ◌++◌, length, refl, sym, ap, subst, ◌∙◌, inl, inr, arith, mul-le-mul_right, mul-le-mul_left, pow-suc, get_or, pow_pos}
-use Rattle.std.specs.Prelude.{◌==◌, nat_lt, nat_le, if◌then◌else◌, slice_index_or}
-use Rattle.std.proofs.lemmas.Bool.{cond_both, eqb-true, eqb-false, ltb-true, ltb-false, leb-true, leb-false, ne_eqb, cases_eq, cases_order, and_parts, cond-true, cond-false, le-ltb, lt-ltb}
+use Rattle.std.proofs.Common.{◌≡◌, ℕ, zero, suc, ◌+◌, ◌-◌, ◌*◌, ◌^◌, ◌<◌, ◌≤◌, List, ◌∷◌, refl, sym, ap, subst, ◌∙◌, inl, inr, arith, pow-suc, pow_pos}
+use Rattle.std.proofs.lemmas.Bool.{ne_eqb, cases_order, cond-false}
 use Rattle.std.proofs.Math.Nat.{mul-lt-mul_of_pos_left}
-use Rattle.mast_world.specs.Mq.{Registers, Row, row, row_at, State, qe_of, probabilities, last_byte, with_carry, behind, byte_out, out_at_zero, doubled, renormalised, lower_part, upper_part, mps_part, lps_part, Encoder, Decision, mps_coded, lps_coded, coded_one, is_mps, state_at, start, start_states}
-use Rattle.mq_coder.proofs.Numbers.{num, num-cons, prefix, unit}
-use Rattle.mq_coder.proofs.Ahead.{Clean, Ahead, ahead-part, ahead-double}
-use Rattle.mq_coder.proofs.Sound.{Carries, Sound, sound-part, sound-double, Out, out-byte, ahead-byte}
-
-pub record Valid (r : Registers) : Type 0 where
-  pub sound : Sound r.a r.bytes r.c r.ct
-  pub before_byte : 0 < r.ct
-  pub shifts : r.ct ≤ 12
-  pub narrow : r.a < 2 ^ 16
-
--- between decisions
-pub record Ready (r : Registers) : Type 0 where
-  pub valid : Valid r
-  pub high : 0x8000 ≤ r.a
+use Rattle.mast_world.specs.Mq.{Registers, out_at_zero, doubled}
+use Rattle.mq_coder.proofs.Numbers.{num, num-cons, unit}
+use Rattle.mq_coder.specs.Ready.{Sound, Valid}
+use Rattle.mq_coder.proofs.Ahead.{Ahead, ahead-double}
+use Rattle.mq_coder.proofs.Sound.{sound-double, Out, out-byte, ahead-byte}
 
 pub record Known (e : ℕ) (F : List ℕ) (u : ℕ) (r : Registers) : Type 0 where
   pub k : ℕ

@@ -1,13 +1,12 @@
 -- The decoder beside the encoder: its register is the distance of the bytes that it has read from the interval's base.
-use Rattle.std.proofs.Common.{◌≡◌, ℕ, zero, suc, ◌+◌, ◌-◌, ◌*◌, ◌/◌, ◌%◌, ◌^◌, ◌<◌, ◌≤◌, ◌≢◌, ◌⊎◌, Bool, true, false, not, cond, ◌&&◌, List, [], ◌∷◌, ◌++◌, replicate, length, refl, sym, ap, subst, ◌∙◌, inl, inr, arith, pow-suc, pow_pos, pow_mono, mul-le-mul_right, mul-le-mul_left, mod-eq_of_lt}
-use Rattle.std.specs.Prelude.{◌==◌, nat_lt, nat_le}
+use Rattle.std.proofs.Common.{◌≡◌, ℕ, zero, suc, ◌+◌, ◌*◌, ◌%◌, ◌^◌, ◌<◌, ◌≤◌, ◌≢◌, List, [], ◌∷◌, ◌++◌, replicate, length, refl, sym, ap, subst, ◌∙◌, inl, inr, arith, pow_pos, pow_mono, mul-le-mul_right, mul-le-mul_left, mod-eq_of_lt}
+use Rattle.std.specs.Prelude.{◌==◌, nat_lt}
 use Rattle.std.proofs.Math.Nat.{lt_of_mul-lt-mul_right}
-use Rattle.std.proofs.lemmas.Bool.{cond_both, cond-true, cond-false, eqb-true, eqb-false, ltb-true, ltb-false, cases_eq, eq-eqb, ne_eqb, lt-ltb, le-ltb}
-use Rattle.mast_world.specs.Mq.{Registers, State, qe_of, last_byte, with_carry, behind, doubled, renormalised, lower_part, upper_part, Reading, next_byte, add_bits, marker_in, stuffed_byte_in, whole_byte_in, byte_in, in_at_zero, read_on, renormalised_reading, is_lower, lower_reading, upper_reading, part_read}
-use Rattle.mq_coder.proofs.Numbers.{room, num, num-cons, prefix, prefix-suc, behind-cons, unit, unit-suc, unit-zero, unit-order, value-le, room-whole, room-stuffed, room-marker}
+use Rattle.std.proofs.lemmas.Bool.{cond_both, eqb-true, eqb-false, ltb-true, ltb-false, cases_eq}
+use Rattle.mast_world.specs.Mq.{Registers, last_byte, behind, Reading, next_byte, add_bits, marker_in, stuffed_byte_in, whole_byte_in, byte_in, in_at_zero}
+use Rattle.mq_coder.proofs.Numbers.{room, num, num-cons, prefix, behind-cons, unit, unit-suc, unit-zero, unit-order, value-le, room-whole, room-stuffed, room-marker}
 use Rattle.mq_coder.proofs.Ahead.{Ahead}
-use Rattle.mq_coder.proofs.Steps.{Valid, Ready, Known, valid-doubled, known-doubled, doubled-value, doubled-width, known-unit, mul_cancel}
-use Rattle.mq_coder.proofs.Decisions.{renorm-zero, renorm-cases, known-renormalised, lower_kept, part_kept, part-cases, known-part, valid-part, qe-positive, qe-small}
+use Rattle.mq_coder.proofs.Steps.{Known}
 
 -- the bytes that were read, the last one first, and behind them those that are still to be read
 unfoldable pub onto : List ℕ → List ℕ → List ℕ
