@@ -1,2 +1,4 @@
 //! The arithmetic coder of JPEG 2000 (ITU-T T.800, Annex C), in both directions.
 #![tactic(auto)]
+
+mod rows;
