@@ -4,6 +4,7 @@ use Rattle.std.specs.Prelude.{nat_lt, nat_le, slice_set}
 use Rattle.std.proofs.lemmas.Bool.{cond_both, ltb-true, ltb-false, leb-true, and_parts, le-ltb}
 use Rattle.mast_world.specs.Mq.{Registers, Row, row, row_at, State, qe_of, after_mps, after_lps, probabilities, doubled, renormalised, lower_part, upper_part, mps_part, lps_part, Encoder, Decision, mps_coded, lps_coded, coded_one, coded_from, is_mps, state_at}
 use Rattle.mq_coder.proofs.Ahead.{ahead-part}
+use Rattle.mq_coder.specs.Parts.{lower_kept, part_kept}
 use Rattle.mq_coder.specs.Ready.{Valid, Ready}
 use Rattle.mq_coder.proofs.Sound.{sound-part}
 use Rattle.mq_coder.proofs.Steps.{Known, valid-doubled, known-doubled, doubled-width}
@@ -112,13 +113,6 @@ pub row-lps : (i : ℕ) → (row_at i).nlps < 47
 row-lps i = (rows-good i).next_lps
 
 -- ---- the part of the interval that a decision keeps
-
--- whether it is the lower one, of width qe
-unfoldable pub lower_kept : Bool → ℕ → ℕ → Bool
-lower_kept m qe a = cond m (nat_lt (a - qe) qe) (not (nat_lt (a - qe) qe))
-
-unfoldable pub part_kept : Bool → ℕ → Registers → Registers
-part_kept m qe r = cond (lower_kept m qe r.a) (lower_part qe r) (upper_part qe r)
 
 pub part-cases :
     (m : Bool) (qe : ℕ) (r : Registers) (P : Registers → Type 0) →

@@ -7,3 +7,5 @@ pub mod Flush
 pub mod Tracking
 pub mod ReadBack
 pub mod Table
+pub mod Outputs
+pub mod Doublings

@@ -10,7 +10,8 @@ use Rattle.mq_coder.proofs.Numbers.{room, num, prefix, unit, unit-suc, unit-zero
 use Rattle.mq_coder.proofs.Ahead.{clean-tail, Ahead}
 use Rattle.mq_coder.specs.Ready.{Clean, Carries, Valid, Ready}
 use Rattle.mq_coder.proofs.Steps.{Known, valid-doubled, known-doubled, doubled-value, doubled-width, known-unit, mul_cancel}
-use Rattle.mq_coder.proofs.Decisions.{renorm-zero, renorm-done, renorm-more, known-renormalised, lower_kept, part_kept, part-cases, known-part, valid-part, ready-coded_one, ready-coded_from, known-coded_from, coded-registers, coded-states, states_coded-is, states_coded, qe-small, coded_from-cons}
+use Rattle.mq_coder.proofs.Decisions.{renorm-zero, renorm-done, renorm-more, known-renormalised, part-cases, known-part, valid-part, ready-coded_one, ready-coded_from, known-coded_from, coded-registers, coded-states, states_coded-is, states_coded, qe-small, coded_from-cons}
+use Rattle.mq_coder.specs.Parts.{lower_kept, part_kept}
 use Rattle.mq_coder.proofs.Flush.{filled, Closed, closed}
 use Rattle.mq_coder.proofs.Tracking.{onto, onto-cons, prefix-onto, CleanAfter, Tracks, tracks-known, Within, within, tracks-in, tracks-in', Next, next-of, clean-next}
 

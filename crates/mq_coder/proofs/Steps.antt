@@ -32,7 +32,7 @@ unfolding doubled out_at_zero
 doubled-out a c bytes s low =
     out-byte bytes (2 * a) (2 * c) 0 (2 * a) (sound-double a bytes c 0 s) (omega arith)
 
-out-valid :
+pub out-valid :
     (bytes : List ℕ) (a c : ℕ) (r : Registers) → a < 2 ^ 16 → Out bytes a c a r → Valid r
 out-valid bytes a c r low o =
     record {

@@ -1,2 +1,5 @@
+pub mod Bytes
+pub mod Parts
 pub mod Ready
 pub mod Rows
+pub mod Seen
