@@ -9,3 +9,4 @@ pub mod ReadBack
 pub mod Table
 pub mod Outputs
 pub mod Doublings
+pub mod Coding

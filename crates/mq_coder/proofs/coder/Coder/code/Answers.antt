@@ -1,0 +1,72 @@
+use Rattle.std.proofs.Common.{◌≡◌, ℕ, ◌≤◌, ◌<◌, ◌^◌, cond, map, set, reverse, get_or, ap, sym, ◌∙◌, arith}
+use Rattle.std.specs.Bool.{beq}
+use Rattle.std.proofs.lemmas.Bool.{cond-true, cond-false}
+use Rattle.mast_world.specs.Mq.{coded_one}
+use Rattle.mq_coder.specs.Bytes.{registers_of}
+use Rattle.mq_coder.specs.Rows.{state_of}
+use Rattle.mq_coder.proofs.Decisions.{qe-small}
+use Rattle.mq_coder.proofs.Coding.{code-valid, quiet-code, moved-ready, moved-code, states-set, next-below}
+use Rattle.mq_coder.proofs.coder.Coder.code.Goals as goal
+use Rattle.mq_coder.proofs.coder.Coder.code.Goals.{then-is_mps, else-is_mps}
+
+pub part_of-part-requires-clause-qe : goal.part_of-part-requires-clause-qe
+part_of-part-requires-clause-qe c =
+    omega (arith, c.row_of-row.ensures.qe, qe-small (state_of (get_or c.self.inside.states c.args.context 0)))
+
+pub invariant_of-self : goal.invariant_of-self
+invariant_of-self c =
+    let r = registers_of c.self.inside.at c.self.inside.bytes in
+    record {
+      ready = record {
+        valid = code-valid c.self.inside.states c.args.context c.args.bit c.row_of-row.result r
+          (registers_of c.part_of-part.result c.self.inside.bytes) c.self.invariant.ready c.row_of-row.ensures
+          (c.part_of-part.ensures c.self.inside.bytes);
+        high = c.if-part-ge32768.true;
+      };
+      states = c.self.invariant.states;
+    }
+
+pub returns-then-part-ge32768-clause-ok : goal.returns-then-part-ge32768-clause-ok
+returns-then-part-ge32768-clause-ok c =
+    let r = registers_of c.self.inside.at c.self.inside.bytes in
+    quiet-code c.self.inside.states c.args.context c.args.bit c.row_of-row.result r
+    (registers_of c.part_of-part.result c.self.inside.bytes) c.self.invariant.ready c.row_of-row.ensures
+    (c.part_of-part.ensures c.self.inside.bytes) c.if-part-ge32768.true
+    ∙ ap (λ e. coded_one e (record { context = c.args.context; bit = c.args.bit })) c.self.view_is
+
+pub renormalise-requires-clause-valid : goal.renormalise-requires-clause-valid
+renormalise-requires-clause-valid c =
+    code-valid c.self.inside.states c.args.context c.args.bit c.row_of-row.result (registers_of c.self.inside.at c.self.inside.bytes)
+    (registers_of c.part_of-part.result c.self.inside.bytes) c.self.invariant.ready c.row_of-row.ensures
+    (c.part_of-part.ensures c.self.inside.bytes)
+
+pub invariant_of-self-2 : goal.invariant_of-self-2
+invariant_of-self-2 c =
+    let chosen : c.if-is_mps.self ≡ cond (beq c.args.bit c.row_of-row.result.mps) c.row_of-row.result.after_mps c.row_of-row.result.after_lps =
+      elim c.if-is_mps.branch [
+        then-is_mps w ↦ w.self-is ∙ sym (cond-true _ _ _ w.if-is_mps.true)
+      | else-is_mps w ↦ w.self-is ∙ sym (cond-false _ _ _ w.if-is_mps.false)
+      ] in
+    record {
+      ready = moved-ready c.self.inside.states c.args.context c.args.bit c.row_of-row.result
+        (registers_of c.self.inside.at c.self.inside.bytes) (registers_of c.part_of-part.result c.self.inside.bytes)
+        (registers_of c.in_ok-self-inside.field-0 c.renormalise.new.bytes) c.self.invariant.ready c.row_of-row.ensures
+        (c.part_of-part.ensures c.self.inside.bytes) c.in_ok-self-inside.ensures.ok;
+      states = states-set c.self.inside.states c.args.context c.if-is_mps.self
+        (next-below (beq c.args.bit c.row_of-row.result.mps) (get_or c.self.inside.states c.args.context 0) c.if-is_mps.self
+          c.row_of-row.result c.row_of-row.ensures chosen)
+        c.self.invariant.states;
+    }
+
+pub returns-clause-ok : goal.returns-clause-ok
+returns-clause-ok c =
+    let chosen : c.if-is_mps.self ≡ cond (beq c.args.bit c.row_of-row.result.mps) c.row_of-row.result.after_mps c.row_of-row.result.after_lps =
+      elim c.if-is_mps.branch [
+        then-is_mps w ↦ w.self-is ∙ sym (cond-true _ _ _ w.if-is_mps.true)
+      | else-is_mps w ↦ w.self-is ∙ sym (cond-false _ _ _ w.if-is_mps.false)
+      ] in
+    moved-code c.self.inside.states c.args.context c.if-is_mps.self c.args.bit c.row_of-row.result
+    (registers_of c.self.inside.at c.self.inside.bytes) (registers_of c.part_of-part.result c.self.inside.bytes)
+    (registers_of c.in_ok-self-inside.field-0 c.renormalise.new.bytes) c.self.invariant.ready c.row_of-row.ensures
+    (c.part_of-part.ensures c.self.inside.bytes) c.if-part-ge32768.false c.in_ok-self-inside.ensures.ok chosen
+    ∙ ap (λ e. coded_one e (record { context = c.args.context; bit = c.args.bit })) c.self.view_is
