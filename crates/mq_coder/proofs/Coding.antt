@@ -278,5 +278,23 @@ ready-new bytes none =
       high = omega arith;
     })
 
-first_states : List ℕ
+all_below : List ℕ → Bool
+all_below [] = true
+all_below (x ∷ xs) = nat_lt x 94 && all_below xs
+
+below-at : (xs : List ℕ) (k : ℕ) → all_below xs ≡ true → get_or xs k 0 < 94
+unfolding all_below
+below-at [] k h = omega arith
+below-at (x ∷ xs) zero h = ltb-true x 94 (and_parts (nat_lt x 94) (all_below xs) h).0
+below-at (x ∷ xs) (suc k) h = below-at xs k (and_parts (nat_lt x 94) (all_below xs) h).1
+
+abbrev pub first_states : List ℕ
 first_states = 8 ∷ 0 ∷ 0 ∷ 0 ∷ 0 ∷ 0 ∷ 0 ∷ 0 ∷ 0 ∷ 0 ∷ 0 ∷ 0 ∷ 0 ∷ 0 ∷ 0 ∷ 0 ∷ 0 ∷ 6 ∷ 92 ∷ []
+
+pub first-below : (k : ℕ) → k < 19 → get_or first_states k 0 < 94
+unfolding all_below
+first-below k p = below-at first_states k refl
+
+pub start-is : (bytes : List ℕ) → bytes ≡ [] → enc (record { a = 0x8000; c = 0; ct = 12; bytes = bytes }) (map state_of first_states) ≡ start
+unfolding start start_states
+start-is bytes none = ap (λ b. enc (record { a = 0x8000; c = 0; ct = 12; bytes = b }) (map state_of first_states)) none

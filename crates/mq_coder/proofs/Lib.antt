@@ -10,3 +10,4 @@ pub mod Table
 pub mod Outputs
 pub mod Doublings
 pub mod Coding
+pub mod Endings

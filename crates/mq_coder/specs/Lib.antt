@@ -1,5 +1,9 @@
 pub mod Bytes
+pub mod Endings
+pub mod Marks
 pub mod Parts
 pub mod Ready
 pub mod Rows
 pub mod Seen
+pub mod Tails
+pub mod Values

@@ -3,8 +3,10 @@ use std::marker::Model;
 
 use mast_world::{Bytes, NoMemory};
 
-use crate::interval::{Interval, part_of, renormalise};
+use crate::ending::{Ending, front_len, last_mark};
+use crate::interval::{Interval, last_of, part_of, renormalise};
 use crate::rows::{START, row_of};
+use crate::tail::{end_with, tail_of};
 
 /// An encoder of decisions. Contracts see the registers of T.800's encoder, and the states of its contexts.
 #[derive(Debug, Drop)]
@@ -27,8 +29,9 @@ impl Model for Coder {
 }
 
 impl Coder {
-    ghost use Rattle.std.specs.Prelude.{◌≡◌, ◌<◌, OnOk, OnErr};
-    ghost use Rattle.mast_world.specs.Mq.{start, coded_one};
+    ghost use Rattle.std.specs.Prelude.{◌≡◌, ◌<◌, ◌^◌, OnOk, OnErr, IfOk, List, length, reverse};
+    ghost use Rattle.mast_world.specs.Mq.{Decision, contexts_of, bits_of, start, coded_one, coded, codeword, flushed_bytes, decoded};
+    ghost use Rattle.mq_coder.specs.Endings.{ending_of};
 
     /// An encoder of no decisions yet (INITENC, C.2.8). It takes no memory.
     pub fn new(alloc: Global) -> Self
@@ -61,5 +64,56 @@ impl Coder {
         self.at = renormalise(&mut self.bytes, part)?;
         self.states[context as usize] = if is_mps { row.after_mps } else { row.after_lps };
         Ok(())
+    }
+
+    /// The bytes that came out so far. A later carry may still change the last one.
+    pub fn bytes(&self) -> &[u8]
+        ensures { result.now ≡ reverse self.now.registers.bytes }
+    {
+        self.bytes.as_slice()
+    }
+
+    /// The number of bytes that `flush` would give.
+    pub fn length_if_flushed(&self) -> usize
+        ensures { result ≡ length (flushed_bytes self.now) }
+    {
+        let tail = tail_of(last_of(self.bytes.as_slice()), self.at);
+        let len = self.bytes.len() + 1;
+        if tail.second == 0xff { len } else { len + 1 }
+    }
+
+    /// The registers, from which `flushed` gives the codeword of the decisions that were coded so far.
+    pub fn ending(&self) -> Ending
+        requires { length (flushed_bytes self.now) < 2 ^ 32 }
+        ensures { result ≡ ending_of self.now }
+    {
+        let bytes = self.bytes.as_slice();
+        Ending {
+            length: self.length_if_flushed() as u32,
+            a: self.at.a + last_mark(bytes),
+            c: self.at.c,
+            ct: self.at.ct as u8,
+            kept: front_len(bytes) as u32,
+        }
+    }
+
+    /// The codeword of the decisions that were coded (FLUSH, C.2.9).
+    pub fn flush(self) -> Result<Bytes, NoMemory>
+        ensures bytes { IfOk result (λ bytes. bytes ≡ flushed_bytes self) }
+        ensures codeword { IfOk result (λ bytes. (ds : List Decision) → self ≡ coded ds → bytes ≡ codeword ds) }
+        // Read in the contexts of the decisions in order, the codeword gives their bits.
+        ensures read_back {
+            IfOk result (λ bytes. (ds : List Decision) → self ≡ coded ds →
+                decoded bytes (contexts_of ds) ≡ bits_of ds)
+        }
+    {
+        let Coder {
+            at,
+            states: _,
+            mut bytes,
+        } = self;
+        let tail = tail_of(last_of(bytes.as_slice()), at);
+        end_with(&mut bytes, tail)?;
+        Ok(bytes)
     }
 }

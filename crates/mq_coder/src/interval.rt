@@ -58,7 +58,9 @@ fn stuffed_byte(last: u8, c: u32) -> NextByte
 /// The byte that comes out behind `last`, which is 0 where there is none (BYTEOUT, C.2.7).
 pub(crate) fn next_byte(last: u8, c: u32) -> NextByte
     requires { c < 2 ^ 28 }
-    ensures { IsNext last c result }
+    ensures out { IsNext last c result }
+    ensures room { result.c * 2 ^ result.ct < 2 ^ 28 }
+    ensures shifts { result.ct ≤ 8 }
 {
     if last == 0xff {
         stuffed_byte(last, c)
@@ -81,15 +83,15 @@ pub(crate) fn last_of(bytes: &[u8]) -> u8
     }
 }
 
-// Puts the byte behind the others.
-fn put(bytes: &mut Bytes, next: NextByte) -> Result<(), NoMemory>
-    ensures ok { OnOk result (reverse bytes.new ≡ next.byte ∷ with_last next.last (reverse bytes.old)) }
+/// Puts the byte behind the others, the last one of which becomes `last`.
+pub(crate) fn put(bytes: &mut Bytes, last: u8, byte: u8) -> Result<(), NoMemory>
+    ensures ok { OnOk result (reverse bytes.new ≡ byte ∷ with_last last (reverse bytes.old)) }
     ensures err { OnErr result (bytes.new ≡ bytes.old) }
 {
     let len = bytes.len();
-    bytes.push(next.byte)?;
+    bytes.push(byte)?;
     if 0 < len {
-        bytes.set(len - 1, next.last);
+        bytes.set(len - 1, last);
     }
     Ok(())
 }
@@ -126,7 +128,7 @@ pub(crate) fn doubled(
     }
     let last = last_of(bytes.as_slice());
     let next = next_byte(last, at.c << at.ct);
-    put(bytes, next)?;
+    put(bytes, next.last, next.byte)?;
     let rest = Interval {
         a: at.a << at.ct,
         c: next.c,

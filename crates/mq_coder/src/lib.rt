@@ -2,7 +2,10 @@
 #![tactic(auto)]
 
 mod coder;
+mod ending;
 mod interval;
 mod rows;
+mod tail;
 
 pub use coder::Coder;
+pub use ending::Ending;

@@ -20,7 +20,7 @@ doubled-requires t c =
     let o : Over a code ct c.args.shift (reverse c.args.bytes.now) =
       over a code ct c.args.shift (reverse c.args.bytes.now) c.requires.valid c.requires.narrow c.if-shift-at.false in
     let rest = rest-is c.last_of-last.result a code ct c.args.shift c.next_byte-next.result c.args.bytes.now c.put.new.bytes o last
-      c.next_byte-next.ensures c.in_ok-put.ensures.ok in
+      c.next_byte-next.ensures.out c.in_ok-put.ensures.ok in
     (omega (arith, c.decreases, c.requires.valid.before_byte),
       (subst Valid rest o.valid, subst (λ x. x * 2 ^ (c.args.shift - ct) < 2 ^ 16) (sym o.width) o.narrow))
 
@@ -34,7 +34,7 @@ returns-in-Ok-clause-ok t c =
     let o : Over a code ct c.args.shift (reverse c.args.bytes.now) =
       over a code ct c.args.shift (reverse c.args.bytes.now) c.requires.valid c.requires.narrow c.if-shift-at.false in
     let rest = rest-is c.last_of-last.result a code ct c.args.shift c.next_byte-next.result c.args.bytes.now c.put.new.bytes o last
-      c.next_byte-next.ensures c.in_ok-put.ensures.ok in
+      c.next_byte-next.ensures.out c.in_ok-put.ensures.ok in
     o.rest ∙ ap (doublings (c.args.shift - ct)) rest ∙ c.in-Ok.ensures.ok
 
 pub returns-in-Err-clause-err : goal.returns-in-Err-clause-err
