@@ -11,3 +11,5 @@ pub mod Outputs
 pub mod Doublings
 pub mod Coding
 pub mod Endings
+pub mod Resume
+pub mod Inputs

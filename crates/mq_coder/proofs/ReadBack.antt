@@ -538,7 +538,7 @@ reads-back e F u v x y (d ∷ ds) small ready known k same =
     with_states : Reading → List State → Decoder
     with_states r s = record { reading = r; states = s }
 
-ready-start : Ready start.registers
+pub ready-start : Ready start.registers
 unfolding start Clean Carries
 ready-start =
     record {

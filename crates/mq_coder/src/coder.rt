@@ -75,7 +75,8 @@ impl Coder {
 
     /// The number of bytes that `flush` would give.
     pub fn length_if_flushed(&self) -> usize
-        ensures { result ≡ length (flushed_bytes self.now) }
+        ensures length { result ≡ length (flushed_bytes self.now) }
+        ensures more { length self.now.registers.bytes < result }
     {
         let tail = tail_of(last_of(self.bytes.as_slice()), self.at);
         let len = self.bytes.len() + 1;

@@ -1,5 +1,6 @@
 ghost use Rattle.std.specs.Prelude.{◌≡◌, ◌+◌, ◌*◌, ◌<◌, IfOk, List, length, reverse};
-ghost use Rattle.mast_world.specs.Mq.{Decision, behind, codeword};
+ghost use Rattle.mast_world.specs.Mq.{Decision, behind, coded, codeword};
+ghost use Rattle.mq_coder.specs.Endings.{Continues};
 ghost use Rattle.mq_coder.specs.Marks.{mark_of};
 
 use std::alloc::Global;
@@ -43,4 +44,38 @@ pub(crate) fn front_len(bytes: &[u8]) -> usize
     ensures { result ≡ length (behind (reverse bytes.now)) }
 {
     bytes.len().saturating_sub(1)
+}
+
+// The bytes that had come out, up to a carry.
+fn begun(alloc: Global, bytes: &[u8], ending: &Ending) -> Result<Bytes, NoMemory>
+    requires { (ds : List Decision) × Continues ds bytes.now ending.now }
+    ensures {
+        (ds : List Decision) → Continues ds bytes.now ending.now →
+            IfOk result (λ out. reverse out ≡ (coded ds).registers.bytes)
+    }
+{
+    let mut out = Bytes::copy_of(alloc, &bytes[..ending.kept as usize])?;
+    if 0 < ending.a >> 24 {
+        out.push((ending.a >> 16 & 0xff) as u8)?;
+    }
+    Ok(out)
+}
+
+/// The codeword of the decisions at which the ending was taken, where `bytes` begins with the `kept` bytes
+/// of that encoder.
+pub fn flushed(alloc: Global, bytes: &[u8], ending: &Ending) -> Result<Bytes, NoMemory>
+    requires { (ds : List Decision) × Continues ds bytes.now ending.now }
+    ensures {
+        (ds : List Decision) → Continues ds bytes.now ending.now → IfOk result (λ out. out ≡ codeword ds)
+    }
+{
+    let mut out = begun(alloc, bytes, ending)?;
+    let at = Interval {
+        a: ending.a & 0xffff,
+        c: ending.c,
+        ct: u32::from(ending.ct),
+    };
+    let tail = tail_of(last_of(out.as_slice()), at);
+    end_with(&mut out, tail)?;
+    Ok(out)
 }

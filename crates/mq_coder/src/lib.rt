@@ -6,6 +6,7 @@ mod ending;
 mod interval;
 mod rows;
 mod tail;
+mod window;
 
 pub use coder::Coder;
-pub use ending::Ending;
+pub use ending::{Ending, flushed};
