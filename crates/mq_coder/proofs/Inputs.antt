@@ -200,3 +200,25 @@ on-wide (suc s) t =
 
 pub doublings-width : (s : ℕ) (t : Reading) → (read_doublings s t).a ≡ t.a * 2 ^ s
 doublings-width s t = on-wide s t
+
+-- ---- doublings in two parts
+
+pub shift-sum : (a ct s : ℕ) → a * 2 ^ s < 2 ^ 16 → ct ≤ s → a * 2 ^ ct * 2 ^ (s - ct) < 2 ^ 16
+shift-sum a ct s h p =
+    let sum : ct + (s - ct) ≡ s = omega arith in
+    let power : 2 ^ s ≡ 2 ^ ct * 2 ^ (s - ct) = ap (λ n. 2 ^ n) (sym sum) ∙ pow-add 2 ct (s - ct) in
+    omega (arith, subst (λ x. a * x < 2 ^ 16) power h)
+
+pub shift-narrow : (a ct s : ℕ) → a * 2 ^ s < 2 ^ 16 → ct ≤ s → a * 2 ^ ct < 2 ^ 16
+shift-narrow a ct s h p = omega (arith, shift-sum a ct s h p, mul-le-mul_left (a * 2 ^ ct) (pow_pos (s - ct)))
+
+pub on-more :
+    (ct s : ℕ) (t : Reading) → ct < s → (read_doublings ct t).ct ≡ 0 → 0 < (byte_in (read_doublings ct t)).ct →
+    read_doublings (s - ct) (byte_in (read_doublings ct t)) ≡ read_doublings s t
+on-more ct s t p at_zero more =
+    let sum : ct + (s - ct) ≡ s = omega arith in
+    sym (on-byte (s - ct) (read_doublings ct t) (omega arith) at_zero more)
+    ∙ sym (on-sum ct (s - ct) t) ∙ ap (λ n. read_doublings n t) sum
+
+pub zero-at : (t : Reading) (x : Reading) → x ≡ t → x.ct ≡ 0 → t.ct ≡ 0
+zero-at t x p q = sym (ap (λ t. t.ct) p) ∙ q

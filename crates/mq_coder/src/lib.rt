@@ -4,9 +4,11 @@
 mod coder;
 mod ending;
 mod interval;
+mod reader;
 mod rows;
 mod tail;
 mod window;
 
 pub use coder::Coder;
 pub use ending::{Ending, flushed};
+pub use reader::Reader;

@@ -1,0 +1,89 @@
+use std::marker::Model;
+
+use crate::rows::{START, row_of};
+use crate::window::{Window, renormalise, split, with_byte};
+
+/// A decoder over the bytes of a codeword; behind their end it finds bytes FF. Contracts see T.800's decoder.
+#[derive(Debug, Drop)]
+pub struct Reader<'a> {
+    at: Window<'a>,
+    states: [u8; 19],
+}
+
+impl<'a> Model for Reader<'a> {
+    ghost use Rattle.mast_world.specs.Mq.{Decoder};
+
+    ghost Value = { Decoder };
+
+    ghost use Rattle.mq_coder.specs.Reading.{decoder_in, IsOpen};
+
+    ghost view = { decoder_in };
+
+    ghost invariant = { IsOpen };
+}
+
+impl<'a> Reader<'a> {
+    ghost use Rattle.std.specs.Prelude.{◌≡◌, ◌<◌};
+    ghost use Rattle.mast_world.specs.Mq.{decoder_of, decoded_bit, decoder_after};
+
+    /// A decoder at the beginning of the bytes (INITDEC, C.3.5).
+    pub fn new(bytes: &'a [u8]) -> Self
+        ensures { result ≡ decoder_of bytes.now }
+    {
+        let (current, rest) = split(bytes);
+        let first = with_byte(Window {
+            a: 0x8000,
+            c: u32::from(current) << 16,
+            ct: 0,
+            current,
+            rest,
+        });
+        Reader {
+            at: Window {
+                a: first.a,
+                c: first.c << 7,
+                ct: first.ct - 7,
+                current: first.current,
+                rest: first.rest,
+            },
+            states: START,
+        }
+    }
+
+    /// The next bit, in this context (DECODE, C.3.2). Any bytes give bits.
+    pub fn bit(&mut self, context: u8) -> bool
+        requires { context < 19 }
+        ensures bit { result ≡ decoded_bit self.old context }
+        ensures after { self.new ≡ decoder_after self.old context }
+    {
+        let row = row_of(self.states[context as usize]);
+        let at = self.at;
+        let rest = at.a - row.qe;
+        let is_lower = at.c >> 16 < row.qe;
+        let part = if is_lower {
+            Window {
+                a: row.qe,
+                c: at.c,
+                ct: at.ct,
+                current: at.current,
+                rest: at.rest,
+            }
+        } else {
+            Window {
+                a: rest,
+                c: at.c - (row.qe << 16),
+                ct: at.ct,
+                current: at.current,
+                rest: at.rest,
+            }
+        };
+        if 0x8000 <= part.a {
+            self.at = part;
+            return row.mps;
+        }
+        let is_mps = (rest < row.qe) == is_lower;
+        self.at = renormalise(part);
+        self.states[context as usize] = if is_mps { row.after_mps } else { row.after_lps };
+        is_mps == row.mps
+    }
+}
