@@ -115,29 +115,39 @@ ahead-out e F u k h w before bs c c' b R S ct carried size all room_b worth prod
   where
     room_k : room (prefix F k) ≡ R
     room_k = room-kept F k b R bs a.kept a.clean all
+
     unit_k : unit e F k ≡ S * u
     unit_k = a.place ∙ ap (λ s. s * u) worth
+
     unit_next : unit e F (suc k) ≡ 2 ^ 27 * u
     unit_next = rw (unit-suc, unit_k, room_k) (omega (arith, ap (λ n. n * u) product))
+
     tail : prefix F (suc k) ≡ bs
     tail = kept-tail F k b bs a.kept
+
     kept_next : (prefix F (suc k) ≡ before) ⊎ (prefix F (suc k) ≡ with_carry before)
     kept_next = elim carried [ inl p ↦ inl (tail ∙ p) | inr p ↦ inr (tail ∙ p) ]
+
     value : num (b ∷ bs) * 2 ^ h + c' ≡ num before * 2 ^ 27 + c
     value = rw (num-cons, room_b, worth) (omega (arith, same, ap (λ n. num bs * n) product))
+
     scaled : (w : ℕ) → (num (b ∷ bs) * 2 ^ h + c' + w) * u ≡ (num before * 2 ^ 27 + c + w) * u
     scaled w = ap (λ v. (v + w) * u) value
+
     plain : (num (b ∷ bs) * 2 ^ h + c') * u ≡ (num before * 2 ^ 27 + c) * u
     plain = ap (λ v. v * u) value
+
     pos : 1 ≤ u
     pos = omega (arith, a.wide)
+
     at_k : (num before * 2 ^ 27 + c) * u < (num (prefix F k) + 1) * unit e F k
     at_k =
         rw (← plain) (rw (num-cons, room_b, worth, unit_k)
         (omega (arith, mul-le-mul_right (S * u) (num-kept F k b R bs a.kept room_k), mul-le-mul_right u below, pos)))
+
     lower_next : (j : ℕ) → j < suc k → (num before * 2 ^ 27 + c) * u < (num (prefix F j) + 1) * unit e F j
     lower_next j p =
         elim (cases_eq j k) [
-          inl q ↦ subst (λ i. (num before * 2 ^ 27 + c) * u < (num (prefix F i) + 1) * unit e F i) (sym q) at_k
-        | inr q ↦ subst (λ v. v < (num (prefix F j) + 1) * unit e F j) plain (a.lower j (omega arith))
+          | inl q ↦ subst (λ i. (num before * 2 ^ 27 + c) * u < (num (prefix F i) + 1) * unit e F i) (sym q) at_k
+          | inr q ↦ subst (λ v. v < (num (prefix F j) + 1) * unit e F j) plain (a.lower j (omega arith))
         ]

@@ -1,17 +1,17 @@
 -- One decision, as the coder does it: a part, and the doublings that it needs.
-use Rattle.std.proofs.Common.{◌≡◌, ℕ, zero, suc, ◌+◌, ◌-◌, ◌*◌, ◌/◌, ◌%◌, ◌^◌, ◌<◌, ◌≤◌, ◌≢◌, Bool, true, false, not, cond, ◌&&◌, List, [], ◌∷◌, map, set, get_or, length, refl, sym, ap, ap₂, subst, ◌∙◌, inl, inr, arith, pow-suc, pow-add, pow_pos, pow_mono, mul-le-mul_left, mul-le-mul_right, mul-lt-mul_of_pos_right, get_or-set_same, get_or-set_other}
+use Rattle.std.proofs.Common.{◌≡◌, ℕ, zero, suc, ◌+◌, ◌-◌, ◌*◌, ◌^◌, ◌<◌, ◌≤◌, Bool, true, false, not, cond, ◌&&◌, List, [], ◌∷◌, map, set, get_or, refl, sym, ap, ap₂, subst, ◌∙◌, inl, inr, arith, pow-suc, pow-add, pow_pos, pow_mono, mul-le-mul_right, mul-lt-mul_of_pos_right}
 use Rattle.std.specs.Prelude.{nat_lt, nat_le}
 use Rattle.std.specs.Bool.{beq}
 use lib.Count.{count_leading_zeros}
-use Rattle.std.proofs.lemmas.Bool.{cases_Bool, cases_lt, cases_eq, cond_both, cond-true, cond-false, leb-true, leb-false, ltb-true, ltb-false, le-ltb, lt-ltb, le-leb, lt-leb, and_parts}
+use Rattle.std.proofs.lemmas.Bool.{cases_lt, cond-true, cond-false, ltb-true, le-ltb, le-leb, lt-leb, and_parts}
 use Rattle.std.proofs.lemmas.Nat.{leading_top}
-use Rattle.mast_world.specs.Mq.{Registers, State, Encoder, Decision, qe_of, after_mps, after_lps, state_at, is_mps, fresh, lower_part, upper_part, renormalised, coded_one, start, start_states}
-use Rattle.mq_coder.specs.Bytes.{doublings, registers_of}
+use Rattle.mast_world.specs.Mq.{Registers, State, Encoder, qe_of, after_mps, after_lps, state_at, is_mps, lower_part, upper_part, renormalised, coded_one, start, start_states}
+use Rattle.mq_coder.specs.Bytes.{doublings}
 use Rattle.mq_coder.specs.Parts.{lower_kept, part_kept}
-use Rattle.mq_coder.specs.Ready.{Clean, Carries, Sound, Valid, Ready}
+use Rattle.mq_coder.specs.Ready.{Clean, Carries, Valid, Ready}
 use Rattle.mq_coder.specs.Rows.{state_of, IsRow}
 use Rattle.mq_coder.specs.declared.rows.Row.{Row}
-use Rattle.mq_coder.proofs.Decisions.{renorm-done, part-cases, valid-part, ready-part, coded-registers, coded-states, states_coded, states_coded-is, qe-small}
+use Rattle.mq_coder.proofs.Decisions.{renorm-done, part-cases, valid-part, ready-part, coded-registers, coded-states, states_coded-is, qe-small}
 use Rattle.mq_coder.proofs.Doublings.{doublings-renormalise}
 
 -- ---- the test of the part
@@ -68,9 +68,9 @@ count-of a pos low =
     let t = leading_top 32 a pos (omega arith) in
     let j = t.0 in
     let small : j < 15 = elim (cases_lt j 15) [
-        inl p ↦ p
+      | inl p ↦ p
       | inr p ↦ absurd (omega (arith, t.2, low, pow_mono p))
-      ] in
+    ] in
     let z : count_leading_zeros 32 a - 16 ≡ 15 - j = omega (arith, t.1) in
     let whole : j + (15 - j) ≡ 15 = omega arith in
     let sum : 2 ^ j * 2 ^ (15 - j) ≡ 2 ^ 15 = sym (pow-add 2 j (15 - j)) ∙ ap (λ n. 2 ^ n) whole in
@@ -143,9 +143,9 @@ lps-narrow : (s : State) (a : ℕ) → lower_kept false (qe_of s) a ≡ false �
 unfolding lower_kept
 lps-narrow s a h =
     elim (cases_lt (a - qe_of s) (qe_of s)) [
-      inl p ↦ omega (arith, qe-small s, p)
-    | inr p ↦ (let t : nat_lt (a - qe_of s) (qe_of s) ≡ false = le-ltb (a - qe_of s) (qe_of s) p in
-        absurd (true_false (sym (ap not t) ∙ h)))
+      | inl p ↦ omega (arith, qe-small s, p)
+      | inr p ↦ (let t : nat_lt (a - qe_of s) (qe_of s) ≡ false = le-ltb (a - qe_of s) (qe_of s) p in
+          absurd (true_false (sym (ap not t) ∙ h)))
     ]
   where
     true_false : true ≡ false → ⊥
@@ -178,11 +178,12 @@ moved-narrow true s r =
   where
     true_false : true ≡ false → ⊥
     true_false p = cc
+
     below : lower_kept true (qe_of s) r.a ≡ true → r.a - qe_of s < 0x8000
     below p = elim (cases_lt (r.a - qe_of s) 0x8000) [
-        inl q ↦ q
+      | inl q ↦ q
       | inr q ↦ absurd (true_false (sym p ∙ mps-upper s r.a q))
-      ]
+    ]
 moved-narrow false s r = λ _. refl
 
 pub one-quiet :
@@ -196,21 +197,21 @@ one-quiet e k b ready h =
     ap₂ enc
     (coded-registers e (record { context = k; bit = b }) ready.high ∙ renorm-done 15 (part_kept m (qe_of s) e.registers) h)
     (coded-states e (record { context = k; bit = b }) ∙ sym (states_coded-is m e.registers.a s e.states k)
-      ∙ cond-true (m && nat_le 0x8000 (e.registers.a - qe_of s)) _ _ (quiet-wide m s e.registers h))
+    ∙ cond-true (m && nat_le 0x8000 (e.registers.a - qe_of s)) _ _ (quiet-wide m s e.registers h))
 
 pub one-moved :
     (e : Encoder) (k : ℕ) (b : Bool) → Ready e.registers →
     (part_kept (is_mps b (state_at e.states k)) (qe_of (state_at e.states k)) e.registers).a < 0x8000 →
     coded_one e (record { context = k; bit = b }) ≡
     enc (renormalised 15 (part_kept (is_mps b (state_at e.states k)) (qe_of (state_at e.states k)) e.registers))
-      (set e.states k (cond (is_mps b (state_at e.states k)) (after_mps (state_at e.states k)) (after_lps (state_at e.states k))))
+    (set e.states k (cond (is_mps b (state_at e.states k)) (after_mps (state_at e.states k)) (after_lps (state_at e.states k))))
 one-moved e k b ready h =
     let s = state_at e.states k in
     let m = is_mps b s in
     ap₂ enc
     (coded-registers e (record { context = k; bit = b }) ready.high)
     (coded-states e (record { context = k; bit = b }) ∙ sym (states_coded-is m e.registers.a s e.states k)
-      ∙ cond-false (m && nat_le 0x8000 (e.registers.a - qe_of s)) _ _ (moved-narrow m s e.registers h))
+    ∙ cond-false (m && nat_le 0x8000 (e.registers.a - qe_of s)) _ _ (moved-narrow m s e.registers h))
 
 -- ---- the same, over what the coder keeps
 
@@ -257,9 +258,9 @@ moved-code xs k v b row r p p' ready h e low moved chosen =
     let s = state_of n in
     let same = part-known xs k b row r p h e in
     let next : state_of v ≡ cond (is_mps b s) (after_mps s) (after_lps s) =
-      next-state (beq b row.mps) n v row h chosen ∙ ap (λ m. cond m (after_mps s) (after_lps s)) (mps-test b s row.mps h.mps) in
+    next-state (beq b row.mps) n v row h chosen ∙ ap (λ m. cond m (after_mps s) (after_lps s)) (mps-test b s row.mps h.mps) in
     let states : map state_of (set xs k v) ≡ set (map state_of xs) k (cond (is_mps b (state_at (map state_of xs) k)) (after_mps (state_at (map state_of xs) k)) (after_lps (state_at (map state_of xs) k))) =
-      map-set xs k v ∙ ap (set (map state_of xs) k) (next ∙ ap (λ s. cond (is_mps b s) (after_mps s) (after_lps s)) (sym (state_at-map xs k))) in
+    map-set xs k v ∙ ap (set (map state_of xs) k) (next ∙ ap (λ s. cond (is_mps b s) (after_mps s) (after_lps s)) (sym (state_at-map xs k))) in
     ap₂ enc (sym moved ∙ ap (renormalised 15) same) states
     ∙ sym (one-moved (enc r (map state_of xs)) k b ready (subst (λ q. q.a < 0x8000) same low))
 

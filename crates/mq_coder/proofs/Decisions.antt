@@ -45,7 +45,7 @@ high-renormalised zero r v h = rw renorm-zero (omega arith)
 high-renormalised (suc n) r v h =
     renorm-cases n r (λ x. 0x8000 ≤ x.a)
     (λ low. high-renormalised n (doubled r) (valid-doubled r v low)
-      (rw (doubled-width r v low) (omega (arith, rw pow-suc at h))))
+    (rw (doubled-width r v low) (omega (arith, rw pow-suc at h))))
     (λ high. high)
 
 pub known-renormalised :
@@ -55,8 +55,8 @@ known-renormalised e F u zero r v known = (u, subst (Known e F u) (renorm-zero r
 known-renormalised e F u (suc n) r v known =
     renorm-cases n r (λ x. Known e F u x → (v : ℕ) × Known e F v r)
     (λ low k.
-      let before = known-renormalised e F u n (doubled r) (valid-doubled r v low) k in
-      (2 * before.0, known-doubled e F before.0 r v low before.1))
+    let before = known-renormalised e F u n (doubled r) (valid-doubled r v low) k in
+    (2 * before.0, known-doubled e F before.0 r v low before.1))
     (λ _ k. (u, k))
     known
 
@@ -136,7 +136,7 @@ unfolding upper_part
 valid-upper qe r small ready =
     record {
       sound =
-        sound-part r.a (r.a - qe) r.bytes r.c (r.c + qe) r.ct (omega (arith, ready.high)) (omega (arith, ready.high)) ready.valid.sound;
+          sound-part r.a (r.a - qe) r.bytes r.c (r.c + qe) r.ct (omega (arith, ready.high)) (omega (arith, ready.high)) ready.valid.sound;
       before_byte = ready.valid.before_byte;
       shifts = ready.valid.shifts;
       narrow = omega (arith, ready.valid.narrow);
@@ -211,17 +211,17 @@ registers-by true e k s high =
     cond_both {A = Encoder} (nat_le 0x8000 (e.registers.a - qe_of s)) _ _
     (λ x. x.registers ≡ renormalised 15 (mps_part (qe_of s) e.registers))
     (λ q.
-      let wide : 0x8000 ≤ e.registers.a - qe_of s = leb-true 0x8000 (e.registers.a - qe_of s) q in
-      let is_upper : nat_lt (e.registers.a - qe_of s) (qe_of s) ≡ false =
-        le-ltb (e.registers.a - qe_of s) (qe_of s) (omega (arith, qe-small s, wide)) in
-      rw is_upper (sym (renorm-done 15 (upper_part (qe_of s) e.registers) (rw upper-width wide))))
+    let wide : 0x8000 ≤ e.registers.a - qe_of s = leb-true 0x8000 (e.registers.a - qe_of s) q in
+    let is_upper : nat_lt (e.registers.a - qe_of s) (qe_of s) ≡ false =
+    le-ltb (e.registers.a - qe_of s) (qe_of s) (omega (arith, qe-small s, wide)) in
+    rw is_upper (sym (renorm-done 15 (upper_part (qe_of s) e.registers) (rw upper-width wide))))
     (λ _. refl)
 registers-by false e k s high =
     by_test (nat_lt (e.registers.a - qe_of s) (qe_of s))
   where
     by_test : (t : Bool) →
-      renormalised 15 (cond t (upper_part (qe_of s) e.registers) (lower_part (qe_of s) e.registers)) ≡
-      renormalised 15 (cond (not t) (lower_part (qe_of s) e.registers) (upper_part (qe_of s) e.registers))
+        renormalised 15 (cond t (upper_part (qe_of s) e.registers) (lower_part (qe_of s) e.registers)) ≡
+        renormalised 15 (cond (not t) (lower_part (qe_of s) e.registers) (upper_part (qe_of s) e.registers))
     by_test true = refl
     by_test false = refl
 
@@ -255,8 +255,9 @@ states-by true e k s =
   where
     enc : Registers → List State → Encoder
     enc r st = record { registers = r; states = st }
+
     by_test : (t : Bool) (r1 r2 : Registers) (s1 s2 : List State) →
-      (cond t (record { registers = r1; states = s1 }) (let x : Encoder = record { registers = r2; states = s2 } in x)).states ≡ cond t s1 s2
+        (cond t (record { registers = r1; states = s1 }) (let x : Encoder = record { registers = r2; states = s2 } in x)).states ≡ cond t s1 s2
     by_test true r1 r2 s1 s2 = refl
     by_test false r1 r2 s1 s2 = refl
 states-by false e k s = refl
@@ -280,7 +281,7 @@ known-coded_one e F u x d ready known =
     let m = is_mps d.bit (state_at x.states d.context) in
     let s = state_at x.states d.context in
     let k : Known e F u (renormalised 15 (part_kept m (qe_of s) x.registers)) =
-      subst (Known e F u) (coded-registers x d ready.high) known in
+    subst (Known e F u) (coded-registers x d ready.high) known in
     let before = known-renormalised e F u 15 (part_kept m (qe_of s) x.registers) (valid-part m s x.registers ready) k in
     (before.0, known-part e F before.0 m s x.registers ready.high before.1)
 

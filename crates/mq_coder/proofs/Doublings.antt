@@ -1,11 +1,11 @@
 -- Doublings by a count: those before the next byte at once, and then the byte.
-use Rattle.std.proofs.Common.{◌≡◌, ℕ, zero, suc, ◌+◌, ◌-◌, ◌*◌, ◌/◌, ◌%◌, ◌^◌, ◌<◌, ◌≤◌, ◌≢◌, Bool, true, false, cond, List, [], ◌∷◌, ◌++◌, reverse, length, refl, sym, ap, ap₂, subst, ◌∙◌, arith, pow-suc, pow-add, pow_pos, pow_mono, mul-le-mul_left, mul-le-mul_right, mod-eq_of_lt}
+use Rattle.std.proofs.Common.{◌≡◌, ℕ, zero, suc, ◌+◌, ◌-◌, ◌*◌, ◌%◌, ◌^◌, ◌<◌, ◌≤◌, List, [], ◌∷◌, reverse, refl, sym, ap, subst, ◌∙◌, arith, pow-suc, pow-add, pow_pos, pow_mono, mul-le-mul_left, mul-le-mul_right, mod-eq_of_lt}
 use Rattle.std.proofs.lemmas.List.{reverse-reverse}
 use Rattle.mast_world.specs.Mq.{Registers, last_byte, behind, byte_out, out_at_zero, doubled, renormalised}
-use Rattle.mq_coder.specs.Bytes.{with_last, IsNext, doublings, registers_of}
-use Rattle.mq_coder.specs.Ready.{Sound, Valid}
+use Rattle.mq_coder.specs.Bytes.{with_last, IsNext, doublings}
+use Rattle.mq_coder.specs.Ready.{Valid}
 use Rattle.mq_coder.specs.declared.interval.NextByte.{NextByte}
-use Rattle.mq_coder.proofs.Sound.{Out, out-byte}
+use Rattle.mq_coder.proofs.Sound.{out-byte}
 use Rattle.mq_coder.proofs.Flush.{sound-shift}
 use Rattle.mq_coder.proofs.Steps.{regs, doubled-quiet, valid-doubled, doubled-width, out-valid}
 use Rattle.mq_coder.proofs.Decisions.{renorm-done, renorm-more}
@@ -36,7 +36,7 @@ quiet' (suc s) a c ct bytes p =
     ∙ ap (doublings s) (doubled-quiet a c (ct - 2) bytes)
     ∙ quiet' s (2 * a) (2 * c) (suc (ct - 2)) bytes (omega arith)
     ∙ regs-eq (2 * a * 2 ^ s) (a * 2 ^ suc s) (2 * c * 2 ^ s) (c * 2 ^ suc s) (suc (ct - 2) - s) (ct - suc s) bytes
-      (rw pow-suc (omega arith)) (rw pow-suc (omega arith)) (omega arith)
+    (rw pow-suc (omega arith)) (rw pow-suc (omega arith)) (omega arith)
 
 below-shift : (a s : ℕ) → 0 < a → a * 2 ^ s < 2 ^ 16 → a * 2 ^ s % 2 ^ 32 ≡ a * 2 ^ s
 below-shift a s pos h = mod-eq_of_lt (omega (arith, h))
@@ -54,8 +54,8 @@ quiet a c ct s bytes v narrow p =
     let less : s ≤ ct = omega arith in
     quiet' s a c ct bytes p
     ∙ regs-eq (a * 2 ^ s) (a * 2 ^ s % 2 ^ 32) (c * 2 ^ s) (c * 2 ^ s % 2 ^ 32) (ct - s) (ct - s) bytes
-      (sym (below-shift a s v.sound.positive narrow))
-      (sym (mod-eq_of_lt (omega (arith, code-shift a c ct s bytes v less)))) refl
+    (sym (below-shift a s v.sound.positive narrow))
+    (sym (mod-eq_of_lt (omega (arith, code-shift a c ct s bytes v less)))) refl
 
 doubled-last : (a c : ℕ) (bytes : List ℕ) → doubled (regs a c 1 bytes) ≡ byte_out (regs (2 * a) (2 * c) 0 bytes)
 unfolding doubled out_at_zero
@@ -70,7 +70,7 @@ over' zero s a c bytes p =
     ap (λ i. doublings i (regs a c 1 bytes)) form
     ∙ doublings-suc (s - 1) (regs a c 1 bytes)
     ∙ ap (doublings (s - 1)) (doubled-last a c bytes
-      ∙ ap byte_out (regs-eq (2 * a) (a * 2 ^ 1) (2 * c) (c * 2 ^ 1) 0 0 bytes (omega arith) (omega arith) refl))
+    ∙ ap byte_out (regs-eq (2 * a) (a * 2 ^ 1) (2 * c) (c * 2 ^ 1) 0 0 bytes (omega arith) (omega arith) refl))
 over' (suc n) s a c bytes p =
     let form : s ≡ suc (s - 1) = omega arith in
     let left : s - 1 - suc n ≡ s - suc (suc n) = omega arith in
@@ -80,8 +80,8 @@ over' (suc n) s a c bytes p =
     ∙ over' n (s - 1) (2 * a) (2 * c) bytes (omega arith)
     ∙ ap (λ i. doublings i (byte_out (regs (2 * a * 2 ^ suc n) (2 * c * 2 ^ suc n) 0 bytes))) left
     ∙ ap (λ r. doublings (s - suc (suc n)) (byte_out r))
-      (regs-eq (2 * a * 2 ^ suc n) (a * 2 ^ suc (suc n)) (2 * c * 2 ^ suc n) (c * 2 ^ suc (suc n)) 0 0 bytes
-        (double a (suc n)) (double c (suc n)) refl)
+    (regs-eq (2 * a * 2 ^ suc n) (a * 2 ^ suc (suc n)) (2 * c * 2 ^ suc n) (c * 2 ^ suc (suc n)) 0 0 bytes
+    (double a (suc n)) (double c (suc n)) refl)
   where
     double : (x n : ℕ) → 2 * x * 2 ^ n ≡ x * 2 ^ suc n
     double x n = rw pow-suc (omega arith)
@@ -109,9 +109,9 @@ over a c ct s bytes v narrow p =
       code = mod-eq_of_lt (omega (arith, small));
       small = small;
       rest = subst (λ n. doublings s (regs a c n bytes) ≡ doublings (s - n) (byte_out (regs (a * 2 ^ n) (c * 2 ^ n) 0 bytes)))
-        (sym form) (over' (ct - 1) s a c bytes (omega arith));
+          (sym form) (over' (ct - 1) s a c bytes (omega arith));
       valid = out-valid bytes (a * 2 ^ ct) (c * 2 ^ ct) (byte_out (regs (a * 2 ^ ct) (c * 2 ^ ct) 0 bytes)) wide
-        (out-byte bytes (a * 2 ^ ct) (c * 2 ^ ct) 0 (a * 2 ^ ct) (sound-shift a bytes c ct v.sound) (omega (arith, wide)));
+          (out-byte bytes (a * 2 ^ ct) (c * 2 ^ ct) 0 (a * 2 ^ ct) (sound-shift a bytes c ct v.sound) (omega (arith, wide)));
       narrow = thin;
     }
 
@@ -158,8 +158,8 @@ doublings-renormalise (suc s) n r v p high narrow =
     let low : r.a < 0x8000 = omega (arith, halved, mul-le-mul_left r.a (pow_pos s)) in
     ap (λ i. renormalised i r) form ∙ renorm-more (n - 1) r low
     ∙ doublings-renormalise s (n - 1) (doubled r) (valid-doubled r v low) (omega arith)
-      (rw (doubled-width r v low) (omega (arith, rw pow-suc at high)))
-      (rw (doubled-width r v low) (omega (arith, halved)))
+    (rw (doubled-width r v low) (omega (arith, rw pow-suc at high)))
+    (rw (doubled-width r v low) (omega (arith, halved)))
     ∙ sym (doublings-suc s r)
 
 pub rest-is :

@@ -1,19 +1,18 @@
 -- The end of a codeword, as the coder makes it.
-use Rattle.std.proofs.Common.{◌≡◌, ℕ, zero, suc, ◌+◌, ◌-◌, ◌*◌, ◌/◌, ◌%◌, ◌^◌, ◌<◌, ◌≤◌, ◌≢◌, Bool, true, false, cond, List, [], ◌∷◌, ◌++◌, map, reverse, length, take, refl, sym, ap, ap₂, subst, ◌∙◌, arith, mul-le-mul_right, mul-lt-mul_of_pos_right, pow_pos, mod-eq_of_lt}
+use Rattle.std.proofs.Common.{◌≡◌, ℕ, suc, ◌+◌, ◌-◌, ◌*◌, ◌%◌, ◌^◌, ◌<◌, ◌≤◌, ◌≢◌, List, [], ◌∷◌, reverse, length, refl, sym, ap, subst, ◌∙◌, arith, mul-le-mul_right, pow_pos, mod-eq_of_lt}
 use Rattle.std.specs.Prelude.{◌==◌, nat_lt, bit_or}
 use Rattle.std.proofs.lemmas.List.{reverse-reverse, length-reverse}
-use Rattle.std.proofs.lemmas.Bool.{cond_both, cond-true, cond-false, lt-ltb, le-ltb, eq-eqb, ne_eqb}
+use Rattle.std.proofs.lemmas.Bool.{cond-true, cond-false, lt-ltb, le-ltb, eq-eqb, ne_eqb}
 use Rattle.std.proofs.lemmas.Nat.{le_or_r}
-use Rattle.mast_world.specs.Mq.{Registers, Encoder, State, Decision, contexts_of, bits_of, last_byte, byte_out, low_ones, bits_set, shifted_out, without_last_ff, flushed_bytes, coded, codeword, decoded}
+use Rattle.mast_world.specs.Mq.{Encoder, State, Decision, contexts_of, bits_of, last_byte, byte_out, low_ones, bits_set, shifted_out, without_last_ff, flushed_bytes, coded, codeword, decoded}
 use Rattle.mq_coder.specs.Bytes.{with_last, IsNext, registers_of}
-use Rattle.mq_coder.specs.Ready.{Valid, Ready}
 use Rattle.mq_coder.specs.Tails.{IsTail}
 use Rattle.mq_coder.specs.Values.{flushed_value}
 use Rattle.mq_coder.specs.declared.interval.Interval.{Interval}
 use Rattle.mq_coder.specs.declared.interval.NextByte.{NextByte}
 use Rattle.mq_coder.specs.declared.tail.Tail.{Tail}
 use Rattle.mq_coder.proofs.Steps.{regs}
-use Rattle.mq_coder.proofs.Flush.{Flushed, set-is}
+use Rattle.mq_coder.proofs.Flush.{set-is}
 use Rattle.mq_coder.proofs.ReadBack.{read-back}
 
 -- ---- the value that is flushed
@@ -67,20 +66,20 @@ pub tail-is :
 tail-is last v at first second wide within is_v n1 room n2 =
     record {
       out = λ bytes p.
-        let small : v * 2 ^ at.ct < 2 ^ 28 = value-shift at.a at.c at.ct v wide within is_v in
-        let code1 : v * 2 ^ at.ct % 2 ^ 32 ≡ v * 2 ^ at.ct = mod-eq_of_lt (omega (arith, small)) in
-        let code2 : first.c * 2 ^ first.ct % 2 ^ 32 ≡ first.c * 2 ^ first.ct = mod-eq_of_lt (omega (arith, room)) in
-        let m1 : IsNext last (v * 2 ^ at.ct) first = subst (λ x. IsNext last x first) code1 n1 in
-        let m2 : IsNext first.byte (first.c * 2 ^ first.ct) second = subst (λ x. IsNext first.byte x second) code2 n2 in
-        let set : bits_set (regs at.a at.c at.ct bytes) ≡ regs at.a v at.ct bytes =
+          let small : v * 2 ^ at.ct < 2 ^ 28 = value-shift at.a at.c at.ct v wide within is_v in
+          let code1 : v * 2 ^ at.ct % 2 ^ 32 ≡ v * 2 ^ at.ct = mod-eq_of_lt (omega (arith, small)) in
+          let code2 : first.c * 2 ^ first.ct % 2 ^ 32 ≡ first.c * 2 ^ first.ct = mod-eq_of_lt (omega (arith, room)) in
+          let m1 : IsNext last (v * 2 ^ at.ct) first = subst (λ x. IsNext last x first) code1 n1 in
+          let m2 : IsNext first.byte (first.c * 2 ^ first.ct) second = subst (λ x. IsNext first.byte x second) code2 n2 in
+          let set : bits_set (regs at.a at.c at.ct bytes) ≡ regs at.a v at.ct bytes =
           set-form at.a at.c at.ct bytes ∙ ap (λ x. regs at.a x at.ct bytes) (sym is_v) in
-        let one : shifted_out (bits_set (regs at.a at.c at.ct bytes)) ≡ regs at.a first.c first.ct (first.byte ∷ with_last first.last bytes) =
+          let one : shifted_out (bits_set (regs at.a at.c at.ct bytes)) ≡ regs at.a first.c first.ct (first.byte ∷ with_last first.last bytes) =
           ap shifted_out set ∙ shift-form at.a v at.ct bytes ∙ m1.out at.a at.ct bytes p in
-        let two : shifted_out (shifted_out (bits_set (regs at.a at.c at.ct bytes))) ≡
-            regs at.a second.c second.ct (second.byte ∷ second.last ∷ with_last first.last bytes) =
+          let two : shifted_out (shifted_out (bits_set (regs at.a at.c at.ct bytes))) ≡
+          regs at.a second.c second.ct (second.byte ∷ second.last ∷ with_last first.last bytes) =
           ap shifted_out one ∙ shift-form at.a first.c first.ct (first.byte ∷ with_last first.last bytes)
           ∙ m2.out at.a first.ct (first.byte ∷ with_last first.last bytes) (last-is first.byte (with_last first.last bytes)) in
-        ap (λ r. r.bytes) two;
+          ap (λ r. r.bytes) two;
     }
 
 -- ---- the end of the list
@@ -144,7 +143,7 @@ pub length-dropped :
     t.second ≡ 0xFF → length bytes + 1 ≡ length (flushed_bytes e)
 length-dropped e at bytes states last t is_e is_last tail p =
     sym (length-form e at bytes states last t is_e is_last tail
-      ∙ sym (ap length (dropped t.second (t.first ∷ with_last t.last (reverse bytes)) p)) ∙ length-first t bytes)
+    ∙ sym (ap length (dropped t.second (t.first ∷ with_last t.last (reverse bytes)) p)) ∙ length-first t bytes)
 
 pub length-kept :
     (e : Encoder) (at : Interval) (bytes : List ℕ) (states : List State) (last : ℕ) (t : Tail) →
@@ -152,8 +151,8 @@ pub length-kept :
     t.second ≢ 0xFF → length bytes + 1 + 1 ≡ length (flushed_bytes e)
 length-kept e at bytes states last t is_e is_last tail p =
     sym (length-form e at bytes states last t is_e is_last tail
-      ∙ sym (ap length (kept t.second (t.first ∷ with_last t.last (reverse bytes)) p))
-      ∙ ap suc (length-first t bytes) ∙ one_more)
+    ∙ sym (ap length (kept t.second (t.first ∷ with_last t.last (reverse bytes)) p))
+    ∙ ap suc (length-first t bytes) ∙ one_more)
   where
     one_more : suc (length bytes + 1) ≡ length bytes + 1 + 1
     one_more = omega arith

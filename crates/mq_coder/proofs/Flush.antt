@@ -24,6 +24,7 @@ or-ones c =
   where
     or-zero : bit_or (c / 0x10000) 0 ≡ c / 0x10000
     or-zero = or_zero_r (c / 0x10000)
+
     or-full : (x : ℕ) → x < 2 ^ 16 → bit_or x 0xFFFF ≡ 0xFFFF
     or-full x h = omega (arith, le_or_r x 0xFFFF, or_of_16 x 0xFFFF h (omega arith))
 
@@ -37,19 +38,19 @@ unfolding bits_set low_ones
 set-is r wide =
     cond_both (nat_lt (bit_or r.c 0xFFFF) (r.c + r.a)) (bit_or r.c 0xFFFF) (bit_or r.c 0xFFFF - 0x8000) (Flushed r)
     (λ e.
-      let below : bit_or r.c 0xFFFF < r.c + r.a = ltb-true (bit_or r.c 0xFFFF) (r.c + r.a) e in
-      record {
-        low = omega (arith, or-ones r.c);
-        high = omega (arith, below);
-        ones = omega (arith, or-ones r.c);
-      })
+    let below : bit_or r.c 0xFFFF < r.c + r.a = ltb-true (bit_or r.c 0xFFFF) (r.c + r.a) e in
+    record {
+      low = omega (arith, or-ones r.c);
+      high = omega (arith, below);
+      ones = omega (arith, or-ones r.c);
+    })
     (λ e.
-      let above : r.c + r.a ≤ bit_or r.c 0xFFFF = ltb-false (bit_or r.c 0xFFFF) (r.c + r.a) e in
-      record {
-        low = omega (arith, or-ones r.c, above);
-        high = omega (arith, or-ones r.c, above);
-        ones = omega (arith, or-ones r.c, above);
-      })
+    let above : r.c + r.a ≤ bit_or r.c 0xFFFF = ltb-false (bit_or r.c 0xFFFF) (r.c + r.a) e in
+    record {
+      low = omega (arith, or-ones r.c, above);
+      high = omega (arith, or-ones r.c, above);
+      ones = omega (arith, or-ones r.c, above);
+    })
 
 -- ---- shifts by several places
 
@@ -70,9 +71,9 @@ pub ahead-shift :
 ahead-shift e F u k h w bytes c ct sum a =
     let p : 2 ^ 27 ≡ 2 ^ h * 2 ^ ct = ap (λ n. 2 ^ n) (sym sum) ∙ pow-add 2 h ct in
     let value : (num bytes * 2 ^ 27 + c * 2 ^ ct) * u ≡ (num bytes * 2 ^ h + c) * (u * 2 ^ ct) =
-      ap (λ x. (num bytes * x + c * 2 ^ ct) * u) p ∙ omega arith in
+    ap (λ x. (num bytes * x + c * 2 ^ ct) * u) p ∙ omega arith in
     let all : (num bytes * 2 ^ 27 + c * 2 ^ ct + w * 2 ^ ct) * u ≡ (num bytes * 2 ^ h + c + w) * (u * 2 ^ ct) =
-      ap (λ x. (num bytes * x + c * 2 ^ ct + w * 2 ^ ct) * u) p ∙ omega arith in
+    ap (λ x. (num bytes * x + c * 2 ^ ct + w * 2 ^ ct) * u) p ∙ omega arith in
     record {
       shift = sum;
       place = a.place ∙ ap (λ x. x * u) p ∙ omega arith;
@@ -133,16 +134,16 @@ end-lower :
 end-lower w r h S e x place j p =
     let F = filled r.bytes in
     let at3 : (num r.bytes * 2 ^ h + r.c) * 256 < (num (prefix F 3) + 1) * unit e F 3 =
-      rw (prefix-three, place, x.worth) (omega (arith, x.below)) in
+    rw (prefix-three, place, x.worth) (omega (arith, x.below)) in
     let at2 : (num (prefix F 2) + 1) * unit e F 2 ≡ (num (prefix F 3) + 1) * unit e F 3 = value-fill e F r.bytes 2 (prefix-two r.bytes) in
     let at1 : (num (prefix F 1) + 1) * unit e F 1 ≡ (num (prefix F 2) + 1) * unit e F 2 = value-fill e F (0xFF ∷ r.bytes) 1 (prefix-one r.bytes) in
     let at0 : (num (prefix F 0) + 1) * unit e F 0 ≡ (num (prefix F 1) + 1) * unit e F 1 = value-fill e F (0xFF ∷ 0xFF ∷ r.bytes) 0 (prefix-zero F) in
     let Below : ℕ → Type 0 = λ i. (num r.bytes * 2 ^ h + r.c) * 256 < (num (prefix F i) + 1) * unit e F i in
     elim (cases_eq j 0) [
-      inl q ↦ subst Below (sym q) (omega (arith, at0, at1, at2, at3))
-    | inr q ↦ elim (cases_eq j 1) [
-        inl t ↦ subst Below (sym t) (omega (arith, at1, at2, at3))
-      | inr t ↦ let two : j ≡ 2 = omega arith in subst Below (sym two) (omega (arith, at2, at3))
+      | inl q ↦ subst Below (sym q) (omega (arith, at0, at1, at2, at3))
+      | inr q ↦ elim (cases_eq j 1) [
+        | inl t ↦ subst Below (sym t) (omega (arith, at1, at2, at3))
+        | inr t ↦ let two : j ≡ 2 = omega arith in subst Below (sym two) (omega (arith, at2, at3))
       ]
     ]
 
@@ -171,7 +172,7 @@ ended-ahead :
 unfolding least
 ended-ahead w r h S x =
     let place : unit (S / 0x10000) (filled r.bytes) 3 ≡ S * 256 =
-      unit-three (S / 0x10000) r.bytes ∙ elim x.sizes [ inl p ↦ omega arith | inr p ↦ omega arith ] in
+    unit-three (S / 0x10000) r.bytes ∙ elim x.sizes [ inl p ↦ omega arith | inr p ↦ omega arith ] in
     let pos : 0 < S / 0x10000 = elim x.sizes [ inl p ↦ omega arith | inr p ↦ omega arith ] in
     record {
       shift = x.count;
@@ -193,14 +194,15 @@ ones-first N M c b S d p same ones sizes =
     let g : c + 1 ≡ (c + 1) / 0x8000 * 0x8000 = omega arith in
     let all : (c + 1) * (2 * p) ≡ (c + 1) / 0x8000 * p * 0x10000 = ap (λ x. x * (2 * p)) g ∙ omega arith in
     elim sizes [
-      inl q ↦ (let same' : N * 2 ^ 27 + c * (2 * p) ≡ M * 2 ^ 27 + b * 0x80000 + d = same ∙ ap (λ s. M * 2 ^ 27 + b * s + d) q in
-        multiple ((c + 1) / 0x8000 * p) (omega (arith, all, same')))
-    | inr q ↦ (let same' : N * 2 ^ 27 + c * (2 * p) ≡ M * 2 ^ 27 + b * 0x100000 + d = same ∙ ap (λ s. M * 2 ^ 27 + b * s + d) q in
-        multiple2 ((c + 1) / 0x8000 * p) (omega (arith, all, same')))
+      | inl q ↦ (let same' : N * 2 ^ 27 + c * (2 * p) ≡ M * 2 ^ 27 + b * 0x80000 + d = same ∙ ap (λ s. M * 2 ^ 27 + b * s + d) q in
+          multiple ((c + 1) / 0x8000 * p) (omega (arith, all, same')))
+      | inr q ↦ (let same' : N * 2 ^ 27 + c * (2 * p) ≡ M * 2 ^ 27 + b * 0x100000 + d = same ∙ ap (λ s. M * 2 ^ 27 + b * s + d) q in
+          multiple2 ((c + 1) / 0x8000 * p) (omega (arith, all, same')))
     ]
   where
     multiple : (G : ℕ) → N * 2 ^ 27 + G * 0x10000 ≡ M * 2 ^ 27 + b * 0x80000 + (d + 2 * p) → (d + 2 * p) % 0x10000 ≡ 0
     multiple G h = omega arith
+
     multiple2 : (G : ℕ) → N * 2 ^ 27 + G * 0x10000 ≡ M * 2 ^ 27 + b * 0x100000 + (d + 2 * p) → (d + 2 * p) % 0x10000 ≡ 0
     multiple2 G h = omega arith
 
@@ -209,22 +211,25 @@ ones-second :
     (Q ≡ 128) ⊎ (Q ≡ 256) → (S ≡ 0x80000) ⊎ (S ≡ 0x100000) → S ≤ d + P * Q
 ones-second N M c b S d P Q same ones pos qs sizes =
     elim qs [
-      inl q ↦ elim sizes [
-          inl s ↦ subst (λ S. S ≤ d + P * Q) (sym s) (subst (λ Q. 0x80000 ≤ d + P * Q) (sym q) (at1 (same ∙ ap (λ x. M * 2 ^ 27 + b * x + d) s) q))
+      | inl q ↦ elim sizes [
+        | inl s ↦ subst (λ S. S ≤ d + P * Q) (sym s) (subst (λ Q. 0x80000 ≤ d + P * Q) (sym q) (at1 (same ∙ ap (λ x. M * 2 ^ 27 + b * x + d) s) q))
         | inr s ↦ subst (λ S. S ≤ d + P * Q) (sym s) (subst (λ Q. 0x100000 ≤ d + P * Q) (sym q) (at2 (same ∙ ap (λ x. M * 2 ^ 27 + b * x + d) s) q))
-        ]
-    | inr q ↦ elim sizes [
-          inl s ↦ subst (λ S. S ≤ d + P * Q) (sym s) (subst (λ Q. 0x80000 ≤ d + P * Q) (sym q) (at3 (same ∙ ap (λ x. M * 2 ^ 27 + b * x + d) s) q))
+      ]
+      | inr q ↦ elim sizes [
+        | inl s ↦ subst (λ S. S ≤ d + P * Q) (sym s) (subst (λ Q. 0x80000 ≤ d + P * Q) (sym q) (at3 (same ∙ ap (λ x. M * 2 ^ 27 + b * x + d) s) q))
         | inr s ↦ subst (λ S. S ≤ d + P * Q) (sym s) (subst (λ Q. 0x100000 ≤ d + P * Q) (sym q) (at4 (same ∙ ap (λ x. M * 2 ^ 27 + b * x + d) s) q))
-        ]
+      ]
     ]
   where
     at1 : N * 2 ^ 27 + c * Q ≡ M * 2 ^ 27 + b * 0x80000 + d → Q ≡ 128 → 0x80000 ≤ d + P * 128
     at1 h q = let h' : N * 2 ^ 27 + c * 128 ≡ M * 2 ^ 27 + b * 0x80000 + d = subst (λ Q. N * 2 ^ 27 + c * Q ≡ M * 2 ^ 27 + b * 0x80000 + d) q h in omega arith
+
     at2 : N * 2 ^ 27 + c * Q ≡ M * 2 ^ 27 + b * 0x100000 + d → Q ≡ 128 → 0x100000 ≤ d + P * 128
     at2 h q = let h' : N * 2 ^ 27 + c * 128 ≡ M * 2 ^ 27 + b * 0x100000 + d = subst (λ Q. N * 2 ^ 27 + c * Q ≡ M * 2 ^ 27 + b * 0x100000 + d) q h in omega arith
+
     at3 : N * 2 ^ 27 + c * Q ≡ M * 2 ^ 27 + b * 0x80000 + d → Q ≡ 256 → 0x80000 ≤ d + P * 256
     at3 h q = let h' : N * 2 ^ 27 + c * 256 ≡ M * 2 ^ 27 + b * 0x80000 + d = subst (λ Q. N * 2 ^ 27 + c * Q ≡ M * 2 ^ 27 + b * 0x80000 + d) q h in omega arith
+
     at4 : N * 2 ^ 27 + c * Q ≡ M * 2 ^ 27 + b * 0x100000 + d → Q ≡ 256 → 0x100000 ≤ d + P * 256
     at4 h q = let h' : N * 2 ^ 27 + c * 256 ≡ M * 2 ^ 27 + b * 0x100000 + d = subst (λ Q. N * 2 ^ 27 + c * Q ≡ M * 2 ^ 27 + b * 0x100000 + d) q h in omega arith
 
@@ -260,9 +265,9 @@ power-even ct pos =
 
 power-byte : (ct : ℕ) → 7 ≤ ct → ct ≤ 8 → (2 ^ ct ≡ 128) ⊎ (2 ^ ct ≡ 256)
 power-byte ct low high = elim (cases_eq ct 7) [
-    inl p ↦ inl (ap (λ n. 2 ^ n) p)
+  | inl p ↦ inl (ap (λ n. 2 ^ n) p)
   | inr p ↦ (let e : ct ≡ 8 = omega arith in inr (ap (λ n. 2 ^ n) e))
-  ]
+]
 
 out-value :
     (before : List ℕ) (a c w : ℕ) (r : Registers) (o : Out before a c w r) →
@@ -283,27 +288,31 @@ closed-by b s pos few ones =
     let r2 = shifted_out r1 in
     let w2 = 1 * 2 ^ b.ct * 2 ^ r1.ct in
     let first : (r1.c + 1 * 2 ^ b.ct) % 0x10000 ≡ 0 =
-      subst (λ x. (r1.c + x) % 0x10000 ≡ 0) (sym (power-even b.ct pos) ∙ omega arith)
-      (ones-first (num b.bytes) (num o1.bs) b.c o1.b o1.S r1.c (2 ^ (b.ct - 1))
-        (subst (λ x. num b.bytes * 2 ^ 27 + b.c * x ≡ num o1.bs * 2 ^ 27 + o1.b * o1.S + r1.c) (power-even b.ct pos) o1.same)
-        ones o1.sizes) in
+    subst (λ x. (r1.c + x) % 0x10000 ≡ 0) (sym (power-even b.ct pos) ∙ omega arith)
+    (ones-first (num b.bytes) (num o1.bs) b.c o1.b o1.S r1.c (2 ^ (b.ct - 1))
+    (subst (λ x. num b.bytes * 2 ^ 27 + b.c * x ≡ num o1.bs * 2 ^ 27 + o1.b * o1.S + r1.c) (power-even b.ct pos) o1.same)
+    ones o1.sizes) in
     let full : o2.S ≤ r2.c + w2 =
-      ones-second (num r1.bytes) (num o2.bs) r1.c o2.b o2.S r2.c (1 * 2 ^ b.ct) (2 ^ r1.ct) o2.same first
-      (omega (arith, pow_pos b.ct)) (power-byte r1.ct o1.low o1.high) o2.sizes in
+    ones-second (num r1.bytes) (num o2.bs) r1.c o2.b o2.S r2.c (1 * 2 ^ b.ct) (2 ^ r1.ct) o2.same first
+    (omega (arith, pow_pos b.ct)) (power-byte r1.ct o1.low o1.high) o2.sizes in
     let ended : Ended w2 r2 o2.h o2.S =
-      record { worth = o2.worth; sizes = o2.sizes; count = o2.count; below = o2.below; full = full; clean = o2.sound.clean } in
+    record { worth = o2.worth; sizes = o2.sizes; count = o2.count; below = o2.below; full = full; clean = o2.sound.clean } in
     let e = least o2.S in
     let F = filled r2.bytes in
     let at2 : Ahead e F 256 3 o2.h w2 r2.bytes r2.c r2.ct = ended-ahead w2 r2 o2.h o2.S ended in
     let at1 : Ahead e F 256 4 27 w2 r1.bytes (r1.c * 2 ^ r1.ct) 0 =
-      ahead-byte e F 256 3 1 w2 r1.bytes r1.a (r1.c * 2 ^ r1.ct) r2 o2 at2 in
+    ahead-byte e F 256 3 1 w2 r1.bytes r1.a (r1.c * 2 ^ r1.ct) r2 o2 at2 in
     let back1 : Ahead e F (256 * 2 ^ r1.ct) 4 o1.h (1 * 2 ^ b.ct) r1.bytes r1.c r1.ct =
-      ahead-shift e F 256 4 o1.h (1 * 2 ^ b.ct) r1.bytes r1.c r1.ct o1.count at1 in
+    ahead-shift e F 256 4 o1.h (1 * 2 ^ b.ct) r1.bytes r1.c r1.ct o1.count at1 in
     let at0 : Ahead e F (256 * 2 ^ r1.ct) 5 27 (1 * 2 ^ b.ct) b.bytes (b.c * 2 ^ b.ct) 0 =
-      ahead-byte e F (256 * 2 ^ r1.ct) 4 (1 * 2 ^ b.ct) (1 * 2 ^ b.ct) b.bytes b.a (b.c * 2 ^ b.ct) r1 o1 back1 in
-    (e, 256 * 2 ^ r1.ct * 2 ^ b.ct, 5, least-small w2 r2 o2.h o2.S ended,
+    ahead-byte e F (256 * 2 ^ r1.ct) 4 (1 * 2 ^ b.ct) (1 * 2 ^ b.ct) b.bytes b.a (b.c * 2 ^ b.ct) r1 o1 back1 in (
+      e,
+      256 * 2 ^ r1.ct * 2 ^ b.ct,
+      5,
+      least-small w2 r2 o2.h o2.S ended,
       ahead-shift e F (256 * 2 ^ r1.ct) 5 (27 - b.ct) 1 b.bytes b.c b.ct (omega (arith, few)) at0,
-      o2.sound.clean)
+      o2.sound.clean,
+    )
 
 bits-kept : (r : Registers) → ((bits_set r).bytes ≡ r.bytes) × ((bits_set r).ct ≡ r.ct)
 unfolding bits_set
@@ -315,7 +324,7 @@ closed r ready =
     let f = set-is r ready.high in
     let b = bits_set r in
     let s : Sound 1 r.bytes b.c r.ct =
-      sound-part r.a 1 r.bytes r.c b.c r.ct (omega arith) f.high ready.valid.sound in
+    sound-part r.a 1 r.bytes r.c b.c r.ct (omega arith) f.high ready.valid.sound in
     let x = closed-by b s ready.valid.before_byte ready.valid.shifts f.ones in
     record {
       e = x.0;
@@ -325,7 +334,7 @@ closed r ready =
         k = x.2;
         h = 27 - r.ct;
         ahead = ahead-part x.0 (filled (shifted_out (shifted_out b)).bytes) x.1 x.2 (27 - r.ct) r.a 1 r.bytes r.c b.c r.ct
-          f.low f.high x.4;
+            f.low f.high x.4;
       };
       clean = x.5;
     }

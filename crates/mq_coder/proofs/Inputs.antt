@@ -1,13 +1,12 @@
 -- The decoder's bytes and doublings, as the reader takes them.
-use Rattle.std.proofs.Common.{◌≡◌, ℕ, zero, suc, ◌+◌, ◌-◌, ◌*◌, ◌/◌, ◌%◌, ◌^◌, ◌<◌, ◌≤◌, ◌≢◌, Bool, true, false, cond, List, [], ◌∷◌, take, drop, get_or, length, refl, sym, ap, ap₂, subst, ◌∙◌, arith, pow-suc, pow-add, pow_pos, pow_mono, mul-le-mul_left, mod-eq_of_lt}
+use Rattle.std.proofs.Common.{◌≡◌, ℕ, zero, suc, ◌+◌, ◌-◌, ◌*◌, ◌%◌, ◌^◌, ◌<◌, ◌≤◌, ◌≢◌, Bool, true, false, cond, List, [], ◌∷◌, take, drop, get_or, length, refl, sym, ap, subst, ◌∙◌, arith, pow-suc, pow-add, pow_pos, mul-le-mul_left}
 use Rattle.std.specs.Prelude.{◌==◌, nat_lt}
 use lib.Count.{count_leading_zeros}
 use Rattle.std.proofs.lemmas.Bool.{cond-true, cond-false, eq-eqb, ne_eqb, lt-ltb, le-ltb, ltb-true, ltb-false}
-use Rattle.std.proofs.lemmas.Nat.{mul-mod_first, mul-mod_second}
+use Rattle.std.proofs.lemmas.Nat.{mul-mod_first}
 use Rattle.mast_world.specs.Mq.{Reading, next_byte, behind, add_bits, byte_in, marker_in, stuffed_byte_in, whole_byte_in, in_at_zero, read_on, renormalised_reading}
-use Rattle.mq_coder.specs.Windows.{reading_of, read_doublings}
-use Rattle.mq_coder.specs.declared.window.Window.{Window}
-use Rattle.mq_coder.proofs.Coding.{Count, count-of}
+use Rattle.mq_coder.specs.Windows.{read_doublings}
+use Rattle.mq_coder.proofs.Coding.{count-of}
 
 -- ---- the next byte
 
@@ -108,7 +107,7 @@ on-few (suc s) a c ct b l p low =
     ∙ ap (read_doublings s) (read_on-is a c ct b l)
     ∙ on-few s (2 * a) (2 * c % 2 ^ 32) (ct - 1) b l (omega arith) (omega arith)
     ∙ reading-eq (2 * a * 2 ^ s) (a * 2 ^ suc s) (2 * c % 2 ^ 32 * 2 ^ s % 2 ^ 32) (c * 2 ^ suc s % 2 ^ 32) (ct - 1 - s) (ct - suc s) b b l l
-      wide (shift-code c s) left refl refl
+    wide (shift-code c s) left refl refl
 
 pub on-sum : (m n : ℕ) (t : Reading) → read_doublings (m + n) t ≡ read_doublings n (read_doublings m t)
 on-sum zero n t =
@@ -159,7 +158,7 @@ unfolding renormalised_reading
 renorm-cases n t P low high = by_test (nat_lt t.a 0x8000) refl
   where
     by_test : (b : Bool) → nat_lt t.a 0x8000 ≡ b →
-      P (elim b [ true ↦ renormalised_reading n (read_on (in_at_zero t)) | false ↦ t ])
+        P (elim b [ true ↦ renormalised_reading n (read_on (in_at_zero t)) | false ↦ t ])
     by_test true e = low (ltb-true t.a 0x8000 e)
     by_test false e = high (ltb-false t.a 0x8000 e)
 

@@ -13,3 +13,4 @@ pub mod Coding
 pub mod Endings
 pub mod Resume
 pub mod Inputs
+pub mod Bits

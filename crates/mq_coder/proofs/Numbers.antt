@@ -85,9 +85,9 @@ unit-mono e F j (suc d) = rw suc_plus (omega (arith, unit-mono e F j d, unit-gro
 -- a prefix whose unit is worth less is longer
 pub unit-order : (e : ℕ) (F : List ℕ) (i j : ℕ) → unit e F i < unit e F j → i < j
 unit-order e F i j h = elim (cases_lt i j) [
-    inl p ↦ p
+  | inl p ↦ p
   | inr p ↦ absurd (omega (arith, h, subst (λ n. unit e F j ≤ unit e F n) (back p) (unit-mono e F j (i - j))))
-  ]
+]
   where
     back : j ≤ i → i - j + j ≡ i
     back p = omega arith

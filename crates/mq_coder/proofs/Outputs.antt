@@ -1,9 +1,9 @@
 -- Lists of bytes with a last byte that changes, and what a byte that comes out is.
-use Rattle.std.proofs.Common.{◌≡◌, ℕ, zero, suc, ◌+◌, ◌-◌, ◌*◌, ◌/◌, ◌%◌, ◌^◌, ◌<◌, ◌≤◌, ◌≢◌, Bool, true, false, cond, List, [], ◌∷◌, ◌++◌, reverse, length, set, get_or, Option, Some, None, IfSome, IfNone, refl, sym, ap, subst, ◌∙◌, arith}
+use Rattle.std.proofs.Common.{◌≡◌, ℕ, suc, ◌+◌, ◌-◌, ◌/◌, ◌%◌, ◌<◌, ◌≤◌, ◌≢◌, List, [], ◌∷◌, ◌++◌, reverse, length, set, get_or, Option, Some, None, IfSome, IfNone, refl, sym, ap, ◌∙◌, arith}
 use Rattle.std.specs.Prelude.{◌==◌, nat_lt}
-use Rattle.std.proofs.lemmas.List.{reverse-append, get_or-reverse, length-reverse}
+use Rattle.std.proofs.lemmas.List.{reverse-append, get_or-reverse}
 use Rattle.std.proofs.lemmas.Bool.{cond-true, cond-false, eq-eqb, ne_eqb, lt-ltb, le-ltb}
-use Rattle.mast_world.specs.Mq.{Registers, last_byte, behind, with_carry, byte_out, carried_byte_out, whole_byte_out, stuffed_byte_out}
+use Rattle.mast_world.specs.Mq.{last_byte, behind, with_carry, byte_out, carried_byte_out, whole_byte_out, stuffed_byte_out}
 use Rattle.mq_coder.specs.Bytes.{with_last, IsNext}
 use Rattle.mq_coder.specs.declared.interval.NextByte.{NextByte}
 
@@ -37,7 +37,7 @@ set-last xs x p =
     let s = snoc-of xs p in
     let n : length xs - 1 ≡ length s.front = omega (arith, ap length s.shape, length-push s.front s.last) in
     let changed : set xs (length xs - 1) x ≡ s.front ++ x ∷ [] =
-      ap (λ i. set xs i x) n ∙ ap (λ l. set l (length s.front) x) s.shape ∙ set-middle s.front [] s.last x in
+    ap (λ i. set xs i x) n ∙ ap (λ l. set l (length s.front) x) s.shape ∙ set-middle s.front [] s.last x in
     ap reverse changed ∙ reverse-push s.front x
     ∙ sym (ap (with_last x) (ap reverse s.shape ∙ reverse-push s.front s.last))
 
@@ -53,8 +53,8 @@ set-before xs b x p =
     let n : length xs - 1 ≡ length s.front = omega (arith, ap length s.shape, length-push s.front s.last) in
     let both : xs ++ b ∷ [] ≡ s.front ++ s.last ∷ b ∷ [] = ap (λ l. l ++ b ∷ []) s.shape ∙ append-two s.front s.last b in
     let changed : set (xs ++ b ∷ []) (length xs - 1) x ≡ (s.front ++ x ∷ []) ++ b ∷ [] =
-      ap (λ i. set (xs ++ b ∷ []) i x) n ∙ ap (λ l. set l (length s.front) x) both
-      ∙ set-middle s.front (b ∷ []) s.last x ∙ sym (append-two s.front x b) in
+    ap (λ i. set (xs ++ b ∷ []) i x) n ∙ ap (λ l. set l (length s.front) x) both
+    ∙ set-middle s.front (b ∷ []) s.last x ∙ sym (append-two s.front x b) in
     ap reverse changed ∙ reverse-push (s.front ++ x ∷ []) b ∙ ap (λ l. b ∷ l) (reverse-push s.front x)
     ∙ sym (ap (λ l. b ∷ with_last x l) (ap reverse s.shape ∙ reverse-push s.front s.last))
 
@@ -122,8 +122,8 @@ unfolding byte_out stuffed_byte_out
 next-stuffed last c n ff is_last is_byte is_c is_ct =
     record {
       out = λ a ct bytes p.
-        cond-true (last_byte bytes == 0xFF) _ _ (eq-eqb (last_byte bytes) 0xFF (p ∙ ff))
-        ∙ sym (rw (is_last, is_byte, is_c, is_ct, with_last-same bytes last p) refl);
+          cond-true (last_byte bytes == 0xFF) _ _ (eq-eqb (last_byte bytes) 0xFF (p ∙ ff))
+          ∙ sym (rw (is_last, is_byte, is_c, is_ct, with_last-same bytes last p) refl);
     }
 
 pub next-whole :
@@ -134,9 +134,9 @@ unfolding byte_out whole_byte_out
 next-whole last c n not_ff low is_last is_byte is_c is_ct =
     record {
       out = λ a ct bytes p.
-        cond-false (last_byte bytes == 0xFF) _ _ (ne_eqb (last_byte bytes) 0xFF (λ q. not_ff (sym p ∙ q)))
-        ∙ cond-true (nat_lt c 0x8000000) _ _ (lt-ltb c 0x8000000 low)
-        ∙ sym (rw (is_last, is_byte, is_c, is_ct, with_last-same bytes last p) refl);
+          cond-false (last_byte bytes == 0xFF) _ _ (ne_eqb (last_byte bytes) 0xFF (λ q. not_ff (sym p ∙ q)))
+          ∙ cond-true (nat_lt c 0x8000000) _ _ (lt-ltb c 0x8000000 low)
+          ∙ sym (rw (is_last, is_byte, is_c, is_ct, with_last-same bytes last p) refl);
     }
 
 pub next-carried-stuffed :
@@ -147,11 +147,11 @@ unfolding byte_out carried_byte_out stuffed_byte_out
 next-carried-stuffed last c n fe high is_last is_byte is_c is_ct =
     record {
       out = λ a ct bytes p.
-        let at_fe : last_byte bytes ≡ 0xFE = p ∙ fe in
-        cond-false (last_byte bytes == 0xFF) _ _ (ne_eqb (last_byte bytes) 0xFF (λ (q : last_byte bytes ≡ 0xFF). absurd (omega arith)))
-        ∙ cond-false (nat_lt c 0x8000000) _ _ (le-ltb c 0x8000000 high)
-        ∙ cond-true (last_byte (with_carry bytes) == 0xFF) _ _ (eq-eqb (last_byte (with_carry bytes)) 0xFF (last-carry bytes 0xFE at_fe (omega arith)))
-        ∙ sym (rw (is_last, is_byte, is_c, is_ct, with_last-carry bytes 0xFE at_fe) refl);
+          let at_fe : last_byte bytes ≡ 0xFE = p ∙ fe in
+          cond-false (last_byte bytes == 0xFF) _ _ (ne_eqb (last_byte bytes) 0xFF (λ (q : last_byte bytes ≡ 0xFF). absurd (omega arith)))
+          ∙ cond-false (nat_lt c 0x8000000) _ _ (le-ltb c 0x8000000 high)
+          ∙ cond-true (last_byte (with_carry bytes) == 0xFF) _ _ (eq-eqb (last_byte (with_carry bytes)) 0xFF (last-carry bytes 0xFE at_fe (omega arith)))
+          ∙ sym (rw (is_last, is_byte, is_c, is_ct, with_last-carry bytes 0xFE at_fe) refl);
     }
 
 pub next-carried-whole :
@@ -162,8 +162,8 @@ unfolding byte_out carried_byte_out whole_byte_out
 next-carried-whole last c n not_ff not_fe high is_last is_byte is_c is_ct =
     record {
       out = λ a ct bytes p.
-        cond-false (last_byte bytes == 0xFF) _ _ (ne_eqb (last_byte bytes) 0xFF (λ q. not_ff (sym p ∙ q)))
-        ∙ cond-false (nat_lt c 0x8000000) _ _ (le-ltb c 0x8000000 high)
-        ∙ cond-false (last_byte (with_carry bytes) == 0xFF) _ _ (ne_eqb (last_byte (with_carry bytes)) 0xFF (last-carry-not bytes last p not_fe))
-        ∙ sym (rw (is_last, is_byte, is_c, is_ct, with_last-carry bytes last p) refl);
+          cond-false (last_byte bytes == 0xFF) _ _ (ne_eqb (last_byte bytes) 0xFF (λ q. not_ff (sym p ∙ q)))
+          ∙ cond-false (nat_lt c 0x8000000) _ _ (le-ltb c 0x8000000 high)
+          ∙ cond-false (last_byte (with_carry bytes) == 0xFF) _ _ (ne_eqb (last_byte (with_carry bytes)) 0xFF (last-carry-not bytes last p not_fe))
+          ∙ sym (rw (is_last, is_byte, is_c, is_ct, with_last-carry bytes last p) refl);
     }

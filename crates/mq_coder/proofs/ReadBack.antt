@@ -56,27 +56,34 @@ tracks-doubled e F u v r t valid low known k pos =
       clean = k.clean;
       place = mul_cancel 2 (unit e F (length k.s) * 2 ^ (t.ct - 1)) v (omega arith) place2;
       register =
-        subst (λ x. x * 2 ^ (t.ct - 1) + V1 * 2 ^ (t.ct - 1) * 2 ^ 16 ≡ num k.q * 2 ^ 16) (sym exact)
-        (subst (λ x. 2 * t.c * 2 ^ (t.ct - 1) + x * 2 ^ (t.ct - 1) * 2 ^ 16 ≡ num k.q * 2 ^ 16) (sym value)
-        (doubled-register t.c V (t.ct - 1) (num k.q)
+          subst (λ x. x * 2 ^ (t.ct - 1) + V1 * 2 ^ (t.ct - 1) * 2 ^ 16 ≡ num k.q * 2 ^ 16) (sym exact)
+          (subst (λ x. 2 * t.c * 2 ^ (t.ct - 1) + x * 2 ^ (t.ct - 1) * 2 ^ 16 ≡ num k.q * 2 ^ 16) (sym value)
+          (doubled-register t.c V (t.ct - 1) (num k.q)
           (subst (λ i. t.c * 2 ^ i + V * 2 ^ i * 2 ^ 16 ≡ num k.q * 2 ^ 16) ct_is k.register)));
       width = ap (λ a. 2 * a) k.width ∙ sym (doubled-width r valid low);
     }
   where
     V : ℕ
     V = num r.bytes * 2 ^ k.h + r.c
+
     V1 : ℕ
     V1 = num (doubled r).bytes * 2 ^ known.h + (doubled r).c
+
     ct_is : t.ct ≡ suc (t.ct - 1)
     ct_is = omega arith
+
     value : V1 ≡ 2 * V
     value = doubled-value r k.h known.h valid low k.ahead.shift known.ahead.shift
+
     units : u ≡ 2 * v
     units = known-unit e F u (2 * v) r valid.shifts (tracks-known e F u r t k) (known-doubled e F v r valid low known)
+
     placed : unit e F (length k.s) * 2 ^ suc (t.ct - 1) ≡ 2 * v
     placed = subst (λ i. unit e F (length k.s) * 2 ^ i ≡ 2 * v) ct_is (k.place ∙ units)
+
     place2 : 2 * (unit e F (length k.s) * 2 ^ (t.ct - 1)) ≡ 2 * v
     place2 = omega (arith, rw pow-suc at placed)
+
     exact : 2 * t.c % 2 ^ 32 ≡ 2 * t.c
     exact = mod-eq_of_lt (omega (arith, tracks-below e F u r t (omega (arith, valid.shifts)) k, low))
 
@@ -88,7 +95,7 @@ unfolding renormalised_reading
 reading-cases n t P low high = by_test (nat_lt t.a 0x8000) refl
   where
     by_test : (b : Bool) → nat_lt t.a 0x8000 ≡ b →
-      P (elim b [ true ↦ renormalised_reading n (read_on (in_at_zero t)) | false ↦ t ])
+        P (elim b [ true ↦ renormalised_reading n (read_on (in_at_zero t)) | false ↦ t ])
     by_test true e = low (ltb-true t.a 0x8000 e)
     by_test false e = high (ltb-false t.a 0x8000 e)
 
@@ -108,21 +115,21 @@ tracks-renormalised e F u v zero r t small valid known k =
 tracks-renormalised e F u v (suc n) r t small valid known k =
     reading-cases n t (λ x. Tracks e F v (renormalised (suc n) r) x)
     (λ low.
-      let low_r : r.a < 0x8000 = omega (arith, low, k.width) in
-      let more = renorm-more n r low_r in
-      let later : Known e F v (renormalised n (doubled r)) = subst (Known e F v) more known in
-      let next = known-renormalised e F v n (doubled r) (valid-doubled r valid low_r) later in
-      let read = tracks-in e F u r t small (omega (arith, valid.shifts)) valid.narrow k in
-      let step : Tracks e F next.0 (doubled r) (read_on (in_at_zero t)) =
-        tracks-doubled e F u next.0 r (in_at_zero t) valid low_r next.1 read.0 read.1 in
-      subst (λ x. Tracks e F v x (renormalised_reading n (read_on (in_at_zero t)))) (sym more)
-      (tracks-renormalised e F next.0 v n (doubled r) (read_on (in_at_zero t)) small (valid-doubled r valid low_r) later step))
+    let low_r : r.a < 0x8000 = omega (arith, low, k.width) in
+    let more = renorm-more n r low_r in
+    let later : Known e F v (renormalised n (doubled r)) = subst (Known e F v) more known in
+    let next = known-renormalised e F v n (doubled r) (valid-doubled r valid low_r) later in
+    let read = tracks-in e F u r t small (omega (arith, valid.shifts)) valid.narrow k in
+    let step : Tracks e F next.0 (doubled r) (read_on (in_at_zero t)) =
+    tracks-doubled e F u next.0 r (in_at_zero t) valid low_r next.1 read.0 read.1 in
+    subst (λ x. Tracks e F v x (renormalised_reading n (read_on (in_at_zero t)))) (sym more)
+    (tracks-renormalised e F next.0 v n (doubled r) (read_on (in_at_zero t)) small (valid-doubled r valid low_r) later step))
     (λ high.
-      let high_r : 0x8000 ≤ r.a = omega (arith, high, k.width) in
-      let done = renorm-done (suc n) r high_r in
-      let at_r : Known e F v r = subst (Known e F v) done known in
-      let same : u ≡ v = known-unit e F u v r valid.shifts (tracks-known e F u r t k) at_r in
-      subst (λ x. Tracks e F v x t) (sym done) (subst (λ i. Tracks e F i r t) same k))
+    let high_r : 0x8000 ≤ r.a = omega (arith, high, k.width) in
+    let done = renorm-done (suc n) r high_r in
+    let at_r : Known e F v r = subst (Known e F v) done known in
+    let same : u ≡ v = known-unit e F u v r valid.shifts (tracks-known e F u r t k) at_r in
+    subst (λ x. Tracks e F v x t) (sym done) (subst (λ i. Tracks e F i r t) same k))
 
 -- ---- a decision
 
@@ -138,10 +145,10 @@ unfolding is_lower part_read lower_part lower_reading
 kept-lower e F u qe r t few known k =
     let same_h : known.h ≡ k.h = omega (arith, known.ahead.shift, k.ahead.shift) in
     let w : Within (num r.bytes * 2 ^ known.h + r.c) qe t.ct (num k.q) =
-      within e F u known.k known.h qe r.bytes r.c r.ct t.ct (length k.s) k.q known.ahead few
-      (subst (λ G. prefix G (length k.s) ≡ k.q) k.whole (prefix-onto k.s k.q)) k.place in
+    within e F u known.k known.h qe r.bytes r.c r.ct t.ct (length k.s) k.q known.ahead few
+    (subst (λ G. prefix G (length k.s) ≡ k.q) k.whole (prefix-onto k.s k.q)) k.place in
     let high : num k.q < (num r.bytes * 2 ^ k.h + r.c + qe) * 2 ^ t.ct =
-      subst (λ h. num k.q < (num r.bytes * 2 ^ h + r.c + qe) * 2 ^ t.ct) same_h w.high in
+    subst (λ h. num k.q < (num r.bytes * 2 ^ h + r.c + qe) * 2 ^ t.ct) same_h w.high in
     let scaled : t.c * 2 ^ t.ct < qe * 2 ^ 16 * 2 ^ t.ct = omega (arith, high, k.register) in
     let below : t.c < qe * 2 ^ 16 = lt_of_mul-lt-mul_right (2 ^ t.ct) scaled in
     let test : nat_lt (t.c / 2 ^ 16) qe ≡ true = lt-ltb (t.c / 2 ^ 16) qe (omega (arith, below)) in
@@ -171,16 +178,16 @@ unfolding is_lower part_read upper_part upper_reading
 kept-upper e F u qe r t few known k =
     let same_h : known.h ≡ k.h = omega (arith, known.ahead.shift, k.ahead.shift) in
     let w : Within (num r.bytes * 2 ^ known.h + (r.c + qe)) (r.a - qe) t.ct (num k.q) =
-      within e F u known.k known.h (r.a - qe) r.bytes (r.c + qe) r.ct t.ct (length k.s) k.q known.ahead few
-      (subst (λ G. prefix G (length k.s) ≡ k.q) k.whole (prefix-onto k.s k.q)) k.place in
+    within e F u known.k known.h (r.a - qe) r.bytes (r.c + qe) r.ct t.ct (length k.s) k.q known.ahead few
+    (subst (λ G. prefix G (length k.s) ≡ k.q) k.whole (prefix-onto k.s k.q)) k.place in
     let low : (num r.bytes * 2 ^ k.h + (r.c + qe)) * 2 ^ t.ct ≤ num k.q =
-      subst (λ h. (num r.bytes * 2 ^ h + (r.c + qe)) * 2 ^ t.ct ≤ num k.q) same_h w.low in
+    subst (λ h. (num r.bytes * 2 ^ h + (r.c + qe)) * 2 ^ t.ct ≤ num k.q) same_h w.low in
     let scaled : qe * 2 ^ 16 * 2 ^ t.ct ≤ t.c * 2 ^ t.ct = omega (arith, low, k.register) in
     let above : qe * 2 ^ 16 ≤ t.c = le_of_mul (2 ^ t.ct) (qe * 2 ^ 16) t.c (pow_pos t.ct) scaled in
     let test : nat_lt (t.c / 2 ^ 16) qe ≡ false = le-ltb (t.c / 2 ^ 16) qe (omega (arith, above)) in
     let sum : t.c - qe * 2 ^ 16 + qe * 2 ^ 16 ≡ t.c = omega (arith, above) in
     let reg : (t.c - qe * 2 ^ 16 + qe * 2 ^ 16) * 2 ^ t.ct + (num r.bytes * 2 ^ k.h + r.c) * 2 ^ t.ct * 2 ^ 16 ≡ num k.q * 2 ^ 16 =
-      subst (λ x. x * 2 ^ t.ct + (num r.bytes * 2 ^ k.h + r.c) * 2 ^ t.ct * 2 ^ 16 ≡ num k.q * 2 ^ 16) (sym sum) k.register in
+    subst (λ x. x * 2 ^ t.ct + (num r.bytes * 2 ^ k.h + r.c) * 2 ^ t.ct * 2 ^ 16 ≡ num k.q * 2 ^ 16) (sym sum) k.register in
     record {
       test = test;
       tracks = rw test (record {
@@ -196,19 +203,20 @@ kept-upper e F u qe r t few known k =
         clean = k.clean;
         place = k.place;
         register =
-          subst (λ h. (t.c - qe * 2 ^ 16) * 2 ^ t.ct + (num r.bytes * 2 ^ h + (r.c + qe)) * 2 ^ t.ct * 2 ^ 16 ≡ num k.q * 2 ^ 16)
-          (sym same_h) (regroup (t.c - qe * 2 ^ 16) qe (num r.bytes * 2 ^ k.h) r.c (2 ^ t.ct) (num k.q) reg);
+            subst (λ h. (t.c - qe * 2 ^ 16) * 2 ^ t.ct + (num r.bytes * 2 ^ h + (r.c + qe)) * 2 ^ t.ct * 2 ^ 16 ≡ num k.q * 2 ^ 16)
+            (sym same_h) (regroup (t.c - qe * 2 ^ 16) qe (num r.bytes * 2 ^ k.h) r.c (2 ^ t.ct) (num k.q) reg);
         width = ap (λ a. a - qe) k.width;
       });
     }
   where
     le_of_mul : (n x y : ℕ) → 0 < n → x * n ≤ y * n → x ≤ y
     le_of_mul n x y pos h =
-      let l : x * n < (y + 1) * n = omega arith in
-      let m : x < y + 1 = lt_of_mul-lt-mul_right n l in
-      omega arith
+        let l : x * n < (y + 1) * n = omega arith in
+        let m : x < y + 1 = lt_of_mul-lt-mul_right n l in
+        omega arith
+
     regroup : (x q n c d v : ℕ) → (x + q * 2 ^ 16) * d + (n + c) * d * 2 ^ 16 ≡ v * 2 ^ 16 →
-      x * d + (n + (c + q)) * d * 2 ^ 16 ≡ v * 2 ^ 16
+        x * d + (n + (c + q)) * d * 2 ^ 16 ≡ v * 2 ^ 16
     regroup x q n c d v h = omega arith
 
 kept-part :
@@ -260,8 +268,8 @@ pub read-quiet :
 unfolding is_quiet lower_kept
 read-quiet m s a t width test =
     rw (test, width) (quiet-by (nat_lt (a - qe_of s) (qe_of s)) m (nat_le 0x8000 (a - qe_of s))
-      (λ p. let wide : 0x8000 ≤ a - qe_of s = leb-true 0x8000 (a - qe_of s) p in
-        le-ltb (a - qe_of s) (qe_of s) (omega (arith, qe-small s, wide))))
+    (λ p. let wide : 0x8000 ≤ a - qe_of s = leb-true 0x8000 (a - qe_of s) p in
+    le-ltb (a - qe_of s) (qe_of s) (omega (arith, qe-small s, wide))))
 
 pub record Follows (e : ℕ) (F : List ℕ) (v : ℕ) (x : Encoder) (d : Decision) (t : Reading) : Type 0 where
   pub bit : decoded_bit (record { reading = t; states = x.states }) d.context ≡ d.bit
@@ -276,37 +284,49 @@ follows-one e F u v x d t small ready known k =
     record {
       bit = rw is_m (bit-by d.bit s.mps s refl);
       tracks = subst (λ r. Tracks e F v r (renormalised_reading 15 (part_read (qe_of s) t))) (sym form)
-        (tracks-renormalised e F u v 15 p (part_read (qe_of s) t) small (valid-part m s r ready) renormed kept.tracks);
+          (tracks-renormalised e F u v 15 p (part_read (qe_of s) t) small (valid-part m s r ready) renormed kept.tracks);
       states = coded-states x d ∙ sym (rw (quiet, is_m) states_same);
     }
   where
     r : Registers
     r = x.registers
+
     s : State
     s = state_at x.states d.context
+
     m : Bool
     m = is_mps d.bit s
+
     p : Registers
     p = part_kept m (qe_of s) r
+
     form : (coded_one x d).registers ≡ renormalised 15 p
     form = coded-registers x d ready.high
+
     renormed : Known e F v (renormalised 15 p)
     renormed = subst (Known e F v) form known
+
     before : (w : ℕ) × Known e F w p
     before = known-renormalised e F v 15 p (valid-part m s r ready) renormed
+
     same : before.0 ≡ u
     same = known-unit e F before.0 u r ready.valid.shifts (known-part e F before.0 m s r ready.high before.1) (tracks-known e F u r t k)
+
     at_part : Known e F u p
     at_part = subst (λ w. Known e F w p) same before.1
+
     kept : Kept e F u (lower_kept m (qe_of s) r.a) (qe_of s) p t
     kept = kept-part e F u (qe_of s) m r t (omega (arith, ready.valid.shifts)) at_part k
+
     is_m : read_is_mps (qe_of s) t ≡ m
     is_m = read-mps m (qe_of s) r.a t k.width kept.test
+
     quiet : is_quiet (qe_of s) t ≡ (m && nat_le 0x8000 (r.a - qe_of s))
     quiet = read-quiet m s r.a t k.width kept.test
+
     states_same :
-      cond (m && nat_le 0x8000 (r.a - qe_of s)) x.states (slice_set x.states d.context (cond m (after_mps s) (after_lps s))) ≡
-      states_coded m r.a s x.states d.context
+        cond (m && nat_le 0x8000 (r.a - qe_of s)) x.states (slice_set x.states d.context (cond m (after_mps s) (after_lps s))) ≡
+        states_coded m r.a s x.states d.context
     states_same = states_coded-is m r.a s x.states d.context
 
 -- ---- the decoder's beginning
@@ -367,33 +387,46 @@ early-tracks e F u k h m w small a whole clean =
   where
     s0 : List ℕ
     s0 = w ++ replicate m 0xFF
+
     none : (x : ℕ) → last_byte [] ≢ 0xFF
     none x p = absurd (omega arith)
+
     wide : room (next_byte w ∷ []) ≡ 256
     wide = room-whole (next_byte w) [] (none 0)
+
     at_h : h ≡ 15
     at_h = omega (arith, a.shift)
+
     place15 : unit e F k ≡ 2 ^ 15 * u
     place15 = subst (λ h. unit e F k ≡ 2 ^ h * u) at_h a.place
+
     size : k ≡ length s0
     size = omega (arith, a.count, ap length whole, length-onto s0 [])
+
     nonempty : 0 < length s0
     nonempty = elim (cases_eq (length s0) 0) [
-        inl p ↦ absurd (omega (arith, small, a.wide, place15, unit-zero e F, ap (unit e F) (size ∙ p)))
+      | inl p ↦ absurd (omega (arith, small, a.wide, place15, unit-zero e F, ap (unit e F) (size ∙ p)))
       | inr p ↦ omega arith
-      ]
+    ]
+
     next : Next w s0 m
     next = next-of w s0 m refl nonempty
+
     whole' : onto next.s' (next_byte w ∷ []) ≡ F
     whole' = sym (onto-cons (next_byte w) next.s' []) ∙ ap (λ l. onto l []) (sym next.shape) ∙ whole
+
     at : prefix F (length next.s') ≡ next_byte w ∷ []
     at = subst (λ G. prefix G (length next.s') ≡ next_byte w ∷ []) whole' (prefix-onto next.s' (next_byte w ∷ []))
+
     k_is : k ≡ suc (length next.s')
     k_is = size ∙ ap length next.shape
+
     room_at : room (prefix F (length next.s')) ≡ 256
     room_at = ap room at ∙ wide
+
     unit_k : unit e F k ≡ unit e F (length next.s') * 256
     unit_k = ap (unit e F) k_is ∙ unit-suc e F (length next.s') ∙ ap (λ x. unit e F (length next.s') * x) room_at
+
     placed : unit e F (length next.s') * 2 ^ 0 ≡ 128 * u
     placed = omega (arith, unit_k, place15)
 
@@ -430,22 +463,29 @@ shift-seven e F u k h t a seven x =
   where
     ct_is : t.ct ≡ 7 + (t.ct - 7)
     ct_is = omega arith
+
     power : 2 ^ t.ct ≡ 128 * 2 ^ (t.ct - 7)
     power = ap (λ n. 2 ^ n) ct_is ∙ pow-add 2 7 (t.ct - 7)
+
     placed : unit e F (length x.s) * 2 ^ (t.ct - 7) ≡ u
     placed =
-      mul_cancel 128 (unit e F (length x.s) * 2 ^ (t.ct - 7)) u (omega arith)
-      (omega (arith, subst (λ p. unit e F (length x.s) * p ≡ 128 * u) power x.place))
+        mul_cancel 128 (unit e F (length x.s) * 2 ^ (t.ct - 7)) u (omega arith)
+        (omega (arith, subst (λ p. unit e F (length x.s) * p ≡ 128 * u) power x.place))
+
     reg : t.c * 128 * 2 ^ (t.ct - 7) ≡ num x.q * 2 ^ 16
     reg = omega (arith, subst (λ p. t.c * p + (0 * 2 ^ x.h + 0) * p * 2 ^ 16 ≡ num x.q * 2 ^ 16) power x.register)
+
     inside : Within (0 * 2 ^ h + 0) 0x8000 (t.ct - 7) (num x.q)
     inside =
-      within e F u k h 0x8000 [] 0 12 (t.ct - 7) (length x.s) x.q a (omega arith)
-      (subst (λ G. prefix G (length x.s) ≡ x.q) x.whole (prefix-onto x.s x.q)) placed
+        within e F u k h 0x8000 [] 0 12 (t.ct - 7) (length x.s) x.q a (omega arith)
+        (subst (λ G. prefix G (length x.s) ≡ x.q) x.whole (prefix-onto x.s x.q)) placed
+
     scaled : t.c * 128 * 2 ^ (t.ct - 7) < 2 ^ 31 * 2 ^ (t.ct - 7)
     scaled = omega (arith, reg, inside.high)
+
     below : t.c * 128 < 2 ^ 31
     below = lt_of_mul-lt-mul_right (2 ^ (t.ct - 7)) scaled
+
     exact : t.c * 2 ^ 7 % 2 ^ 32 ≡ t.c * 128
     exact = mod-eq_of_lt (omega (arith, below))
 
@@ -499,9 +539,9 @@ unfolding without_last_ff
 zipped [] = record { m = 3; whole = onto-filled [] 3 ∙ onto-three [] }
 zipped (b ∷ bs) =
     let x = cond_both {A = List ℕ} (b == 0xFF) bs (b ∷ bs)
-      (λ l. (m : ℕ) × (onto (reverse l ++ replicate m 0xFF) [] ≡ filled (b ∷ bs)))
-      (λ p. (4, onto-filled bs 4 ∙ onto-four bs ∙ ap (λ y. filled (y ∷ bs)) (sym (eqb-true b 0xFF p))))
-      (λ _. (3, onto-filled (b ∷ bs) 3 ∙ onto-three (b ∷ bs))) in
+    (λ l. (m : ℕ) × (onto (reverse l ++ replicate m 0xFF) [] ≡ filled (b ∷ bs)))
+    (λ p. (4, onto-filled bs 4 ∙ onto-four bs ∙ ap (λ y. filled (y ∷ bs)) (sym (eqb-true b 0xFF p))))
+    (λ _. (3, onto-filled (b ∷ bs) 3 ∙ onto-three (b ∷ bs))) in
     record { m = x.0; whole = x.1 }
 
 clean-dropped : (final : List ℕ) → Clean final → Clean (without_last_ff final)
@@ -529,9 +569,9 @@ reads-back e F u v x y (d ∷ ds) small ready known k same =
     let f0 : Follows e F next.0 x d y.reading = follows-one e F u next.0 x d y.reading small ready next.1 k in
     let y_is : record { reading = y.reading; states = x.states } ≡ y = ap (λ s. with_states y.reading s) same in
     let rest : decoded_from (decoder_after y d.context) (contexts_of ds) ≡ bits_of ds =
-      reads-back e F next.0 v (coded_one x d) (decoder_after y d.context) ds small (ready-coded_one x d ready) later
-      (subst (λ z. Tracks e F next.0 (coded_one x d).registers (decoder_after z d.context).reading) y_is f0.tracks)
-      (subst (λ z. (coded_one x d).states ≡ (decoder_after z d.context).states) y_is f0.states) in
+    reads-back e F next.0 v (coded_one x d) (decoder_after y d.context) ds small (ready-coded_one x d ready) later
+    (subst (λ z. Tracks e F next.0 (coded_one x d).registers (decoder_after z d.context).reading) y_is f0.tracks)
+    (subst (λ z. (coded_one x d).states ≡ (decoder_after z d.context).states) y_is f0.states) in
     let bit : decoded_bit y d.context ≡ d.bit = subst (λ z. decoded_bit z d.context ≡ d.bit) y_is f0.bit in
     ap (λ b. b ∷ decoded_from (decoder_after y d.context) (contexts_of ds)) bit ∙ ap (λ bs. d.bit ∷ bs) rest
   where
@@ -571,5 +611,5 @@ read-back ds =
     let w = reverse (without_last_ff final) in
     reads-back c.e (filled final) first.0 c.u start (decoder_of w) ds c.small ready-start c.known
     (start-tracks c.e (filled final) first.0 z.m w c.small first.1 z.whole
-      (flush-clean (without_last_ff final) (clean-dropped final c.clean)))
+    (flush-clean (without_last_ff final) (clean-dropped final c.clean)))
     (start-states w)

@@ -1,12 +1,12 @@
 -- An ending, and the codeword that is made from it.
-use Rattle.std.proofs.Common.{◌≡◌, ℕ, zero, suc, ◌+◌, ◌-◌, ◌*◌, ◌/◌, ◌%◌, ◌^◌, ◌<◌, ◌≤◌, ◌≢◌, List, [], ◌∷◌, ◌++◌, reverse, length, take, refl, sym, ap, subst, ◌∙◌, arith, length-take}
+use Rattle.std.proofs.Common.{◌≡◌, ℕ, ◌+◌, ◌-◌, ◌*◌, ◌/◌, ◌%◌, ◌^◌, ◌<◌, ◌≤◌, ◌≢◌, List, [], ◌∷◌, ◌++◌, reverse, length, take, refl, sym, ap, ◌∙◌, arith, length-take}
 use Rattle.std.specs.Prelude.{bit_and}
 use Rattle.std.proofs.lemmas.List.{reverse-reverse, length-reverse}
 use Rattle.std.proofs.lemmas.Nat.{and_mask}
-use Rattle.mast_world.specs.Mq.{Registers, Encoder, State, Decision, last_byte, behind, coded, start, coded_from, codeword, flushed_bytes, without_last_ff}
+use Rattle.mast_world.specs.Mq.{Registers, Decision, last_byte, behind, coded, start, codeword, without_last_ff}
 use Rattle.mq_coder.specs.Endings.{Continues}
 use Rattle.mq_coder.specs.Marks.{mark_of}
-use Rattle.mq_coder.specs.Ready.{Clean, Sound, Valid, Ready}
+use Rattle.mq_coder.specs.Ready.{Clean, Ready}
 use Rattle.mq_coder.specs.Bytes.{with_last, registers_of}
 use Rattle.mq_coder.specs.Tails.{IsTail}
 use Rattle.mq_coder.specs.declared.interval.Interval.{Interval}
@@ -131,5 +131,5 @@ resumed ds bytes out en at new last t k is_out is_a is_c is_ct is_last tail is_n
     let h = holds ds bytes en k in
     let r = (coded ds).registers in
     let same : record { registers = registers_of at out; states = (coded ds).states } ≡ coded ds =
-      rw (is_a, low-half r bytes en h, is_c, h.c, is_ct, h.ct, is_out) refl in
+    rw (is_a, low-half r bytes en h, is_c, h.c, is_ct, h.ct, is_out) refl in
     flushed-is (coded ds) at out new (coded ds).states last t same is_last tail is_new

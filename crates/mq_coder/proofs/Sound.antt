@@ -139,9 +139,9 @@ out-whole before bs a c c1 c2 ct w f ff low =
 carry-room :
     (b : ℕ) (q : List ℕ) → (last_byte q ≡ 0xFF → b + 1 ≤ 0x8F) → room ((b + 1) ∷ q) ≡ room (b ∷ q)
 carry-room b q h = elim (cases_eq (last_byte q) 0xFF) [
-    inl p ↦ room-stuffed (b + 1) q p (h p) ∙ sym (room-stuffed b q p (omega (arith, h p)))
+  | inl p ↦ room-stuffed (b + 1) q p (h p) ∙ sym (room-stuffed b q p (omega (arith, h p)))
   | inr p ↦ room-whole (b + 1) q p ∙ sym (room-whole b q p)
-  ]
+]
 
 last-cons : (b : ℕ) (q : List ℕ) → last_byte (b ∷ q) ≡ b
 unfolding last_byte
@@ -196,9 +196,9 @@ out-byte before a c ct w s narrow =
     cond_both (last_byte before == 0xFF) _ _ (λ r. Out before a c w r)
     (λ e. out-stuffed before before a c c ct w f (eqb-true (last_byte before) 0xFF e))
     (λ e. let ff = eqb-false (last_byte before) 0xFF e in
-      cond_both (nat_lt c 0x8000000) _ _ (λ r. Out before a c w r)
-      (λ l. out-whole before before a c c c ct w f ff (omega (arith, ltb-true c 0x8000000 l)))
-      (λ l. out-carried before a c ct w s narrow (ltb-false c 0x8000000 l) ff))
+    cond_both (nat_lt c 0x8000000) _ _ (λ r. Out before a c w r)
+    (λ l. out-whole before before a c c c ct w f ff (omega (arith, ltb-true c 0x8000000 l)))
+    (λ l. out-carried before a c ct w s narrow (ltb-false c 0x8000000 l) ff))
 
 -- going back over a byte
 pub ahead-byte :

@@ -68,7 +68,7 @@ known-doubled' e F u a c zero bytes s few low known =
       k = suc known.k;
       h = 26;
       ahead = ahead-double e F u (suc known.k) 26 a bytes c 0
-        (ahead-byte e F u known.k (2 * a) (2 * a) bytes (2 * a) (2 * c) r o a2);
+          (ahead-byte e F u known.k (2 * a) (2 * a) bytes (2 * a) (2 * c) r o a2);
     }
 known-doubled' e F u a c (suc n) bytes s few low known =
     let k1 : Known e F u (regs (2 * a) (2 * c) (suc n) bytes) = rw doubled-quiet at known in
@@ -77,7 +77,7 @@ known-doubled' e F u a c (suc n) bytes s few low known =
       k = k1.k;
       h = k1.h - 1;
       ahead = ahead-double e F u k1.k (k1.h - 1) a bytes c (suc n)
-        (subst (λ h. Ahead e F u k1.k h (2 * a) bytes (2 * c) (suc n)) same k1.ahead);
+          (subst (λ h. Ahead e F u k1.k h (2 * a) bytes (2 * c) (suc n)) same k1.ahead);
     }
 
 -- the number of the registers doubles with them
@@ -92,7 +92,7 @@ doubled-value' a c zero h h1 bytes s few low p q =
     let at_h1 : h1 ≡ o.h = omega (arith, o.count) in
     let r = doubled (regs a c 1 bytes) in
     let value : num (o.b ∷ o.bs) * o.S + r.c ≡ num bytes * 2 ^ 27 + 2 * c =
-      rw (num-cons, o.room_b) (omega (arith, o.same, ap (λ n. num o.bs * n) o.product)) in
+    rw (num-cons, o.room_b) (omega (arith, o.same, ap (λ n. num o.bs * n) o.product)) in
     rw (o.shape, at_h, at_h1, o.worth) (omega (arith, value))
 doubled-value' a c (suc n) h h1 bytes s few low p q =
     let q' : h1 + suc n ≡ 27 = rw (← ap (λ r. r.ct) (doubled-quiet a c n bytes)) q in
@@ -120,7 +120,7 @@ pub known-doubled :
 known-doubled e F u r v low known =
     subst (λ x. Known e F (2 * u) x) (sym (ct-form r v.before_byte))
     (known-doubled' e F u r.a r.c (r.ct - 1) r.bytes (sound-form r v) (omega (arith, v.shifts, v.before_byte)) low
-      (subst (λ x. Known e F u (doubled x)) (ct-form r v.before_byte) known))
+    (subst (λ x. Known e F u (doubled x)) (ct-form r v.before_byte) known))
 
 pub doubled-value :
     (r : Registers) (h h1 : ℕ) → Valid r → r.a < 0x8000 → h + r.ct ≡ 27 → h1 + (doubled r).ct ≡ 27 →
@@ -128,7 +128,7 @@ pub doubled-value :
 doubled-value r h h1 v low p q =
     subst (λ x. num (doubled x).bytes * 2 ^ h1 + (doubled x).c ≡ 2 * (num x.bytes * 2 ^ h + x.c)) (sym (ct-form r v.before_byte))
     (doubled-value' r.a r.c (r.ct - 1) h h1 r.bytes (sound-form r v) (omega (arith, v.shifts, v.before_byte)) low
-      (omega (arith, v.before_byte)) (subst (λ x. h1 + (doubled x).ct ≡ 27) (ct-form r v.before_byte) q))
+    (omega (arith, v.before_byte)) (subst (λ x. h1 + (doubled x).ct ≡ 27) (ct-form r v.before_byte) q))
 
 pub doubled-width : (r : Registers) → Valid r → r.a < 0x8000 → (doubled r).a ≡ 2 * r.a
 doubled-width r v low =
@@ -141,12 +141,12 @@ doubled-width r v low =
 
 pub mul_cancel : (n x y : ℕ) → 0 < n → n * x ≡ n * y → x ≡ y
 mul_cancel n x y pos same = elim (cases_order x y) [
-    inl h ↦ h
+  | inl h ↦ h
   | inr h ↦ elim h [
-      inl l ↦ absurd (omega (arith, same, mul-lt-mul_of_pos_left l pos))
+    | inl l ↦ absurd (omega (arith, same, mul-lt-mul_of_pos_left l pos))
     | inr l ↦ absurd (omega (arith, same, mul-lt-mul_of_pos_left l pos))
-    ]
   ]
+]
 
 -- the unit is fixed by the registers
 pub known-unit :
@@ -155,5 +155,5 @@ known-unit e F u v r few p q =
     let same_h : q.h ≡ p.h = omega (arith, p.ahead.shift, q.ahead.shift) in
     let same_k : q.k ≡ p.k = omega (arith, p.ahead.count, q.ahead.count) in
     let e1 : unit e F p.k ≡ 2 ^ p.h * v =
-      subst (λ k. unit e F k ≡ 2 ^ p.h * v) same_k (subst (λ h. unit e F q.k ≡ 2 ^ h * v) same_h q.ahead.place) in
+    subst (λ k. unit e F k ≡ 2 ^ p.h * v) same_k (subst (λ h. unit e F q.k ≡ 2 ^ h * v) same_h q.ahead.place) in
     mul_cancel (2 ^ p.h) u v (pow_pos p.h) (sym p.ahead.place ∙ e1)

@@ -1,5 +1,5 @@
 -- The table of states is Table C.2 at each of its 94 entries, by computing.
-use Rattle.std.proofs.Common.{◌≡◌, ℕ, zero, suc, ◌+◌, ◌<◌, ◌/◌, ◌%◌, Bool, true, false, ◌&&◌, not, get_or, List, [], ◌∷◌, refl, sym, ap, ap₂, ◌∙◌, arith, inl, inr}
+use Rattle.std.proofs.Common.{◌≡◌, ℕ, zero, suc, ◌<◌, Bool, true, false, ◌&&◌, get_or, List, refl, ap₂, arith, inl, inr}
 use Rattle.std.specs.Prelude.{nat_lt, ◌==◌}
 use Rattle.std.specs.Bool.{beq}
 use Rattle.std.proofs.lemmas.Bool.{cases_eq, and_parts, ltb-true, eqb-true}
@@ -63,8 +63,8 @@ row-below rows zero i h p = absurd (omega arith)
 row-below rows (suc n) i h p =
     let both = and_parts (is_row n (get_or rows n (record { qe = 0; mps = false; after_mps = 0; after_lps = 0 }))) (all_rows rows n) h in
     elim (cases_eq i n) [
-      inl e ↦ rw e (is_row-is n (get_or rows n (record { qe = 0; mps = false; after_mps = 0; after_lps = 0 })) both.0)
-    | inr e ↦ row-below rows n i both.1 (omega arith)
+      | inl e ↦ rw e (is_row-is n (get_or rows n (record { qe = 0; mps = false; after_mps = 0; after_lps = 0 })) both.0)
+      | inr e ↦ row-below rows n i both.1 (omega arith)
     ]
 
 pub rows-are : (i : ℕ) → i < 94 → IsRow i (get_or ROWS i (record { qe = 0; mps = false; after_mps = 0; after_lps = 0 }))

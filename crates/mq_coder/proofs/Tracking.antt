@@ -62,21 +62,28 @@ within e F u k h w bytes c ct d j q a few at place =
   where
     high_enough : 2 ≤ 2 ^ h
     high_enough = let i : 1 ≤ h = omega (arith, a.shift) in pow_mono i
+
     half : 2 * u ≤ 2 ^ h * u
     half = mul-le-mul_right u high_enough
+
     longer : j < k
     longer =
-      unit-order e F j k
-      (omega (arith, place, a.place, a.wide, mul-le-mul_left (unit e F j) (pow_pos d), half))
+        unit-order e F j k
+        (omega (arith, place, a.place, a.wide, mul-le-mul_left (unit e F j) (pow_pos d), half))
+
     lower : (num bytes * 2 ^ h + c) * (unit e F j * 2 ^ d) < (num q + 1) * unit e F j
     lower = subst (λ x. (num bytes * 2 ^ h + c) * x < (num q + 1) * unit e F j) (sym place)
-      (subst (λ x. (num bytes * 2 ^ h + c) * u < (num x + 1) * unit e F j) at (a.lower j longer))
+        (subst (λ x. (num bytes * 2 ^ h + c) * u < (num x + 1) * unit e F j) at (a.lower j longer))
+
     below : (num bytes * 2 ^ h + c) * 2 ^ d * unit e F j < (num q + 1) * unit e F j
     below = omega (arith, lower)
+
     value : num q * unit e F j ≤ num F * e
     value = subst (λ x. num x * unit e F j ≤ num F * e) at (value-le e F j)
+
     upper : num q * unit e F j < (num bytes * 2 ^ h + c + w) * (unit e F j * 2 ^ d)
     upper = subst (λ x. num q * unit e F j < (num bytes * 2 ^ h + c + w) * x) (sym place) (omega (arith, value, a.upper))
+
     above : num q * unit e F j < (num bytes * 2 ^ h + c + w) * 2 ^ d * unit e F j
     above = omega (arith, upper)
 
@@ -138,50 +145,64 @@ tracks-byte e F u r t t' R x n small few narrow k at_zero is_a is_c is_ct is_cur
       clean = subst (λ p. CleanAfter p t'.rest) (sym is_current) (subst (CleanAfter b) (sym is_rest) (clean-next t.current t.rest k.clean));
       place = subst (λ i. unit e F (length next.s') * 2 ^ i ≡ u) (sym is_ct) (subst (λ p. unit e F (length next.s') * p ≡ u) (sym worth) placed);
       register =
-        subst (λ i. t'.c * 2 ^ i + V * 2 ^ i * 2 ^ 16 ≡ num (b ∷ k.q) * 2 ^ 16) (sym is_ct)
-        (subst (λ p. t'.c * p + V * p * 2 ^ 16 ≡ num (b ∷ k.q) * 2 ^ 16) (sym worth)
-        (subst (λ c. c * R + V * R * 2 ^ 16 ≡ num (b ∷ k.q) * 2 ^ 16) (sym exact) sum));
+          subst (λ i. t'.c * 2 ^ i + V * 2 ^ i * 2 ^ 16 ≡ num (b ∷ k.q) * 2 ^ 16) (sym is_ct)
+          (subst (λ p. t'.c * p + V * p * 2 ^ 16 ≡ num (b ∷ k.q) * 2 ^ 16) (sym worth)
+          (subst (λ c. c * R + V * R * 2 ^ 16 ≡ num (b ∷ k.q) * 2 ^ 16) (sym exact) sum));
       width = is_a ∙ k.width;
     }
   where
     b : ℕ
     b = next_byte t.rest
+
     V : ℕ
     V = num r.bytes * 2 ^ k.h + r.c
+
     at0 : unit e F (length k.s) ≡ u
     at0 = let p : unit e F (length k.s) * 2 ^ 0 ≡ u = subst (λ i. unit e F (length k.s) * 2 ^ i ≡ u) at_zero k.place in omega arith
+
     reg0 : t.c + V * 2 ^ 16 ≡ num k.q * 2 ^ 16
     reg0 =
-      let p : t.c * 2 ^ 0 + V * 2 ^ 0 * 2 ^ 16 ≡ num k.q * 2 ^ 16 =
+        let p : t.c * 2 ^ 0 + V * 2 ^ 0 * 2 ^ 16 ≡ num k.q * 2 ^ 16 =
         subst (λ i. t.c * 2 ^ i + V * 2 ^ i * 2 ^ 16 ≡ num k.q * 2 ^ 16) at_zero k.register in
-      omega arith
+        omega arith
+
     nonempty : 0 < length k.s
     nonempty = elim (cases_eq (length k.s) 0) [
-        inl p ↦ absurd (omega (arith, at0, unit-zero e F, ap (unit e F) p, k.ahead.wide))
+      | inl p ↦ absurd (omega (arith, at0, unit-zero e F, ap (unit e F) p, k.ahead.wide))
       | inr p ↦ omega arith
-      ]
+    ]
+
     next : Next t.rest k.s k.m
     next = next-of t.rest k.s k.m k.rest nonempty
+
     whole' : onto next.s' (b ∷ k.q) ≡ F
     whole' = sym (onto-cons b next.s' k.q) ∙ ap (λ l. onto l k.q) (sym next.shape) ∙ k.whole
+
     at : prefix F (length next.s') ≡ b ∷ k.q
     at = subst (λ G. prefix G (length next.s') ≡ b ∷ k.q) whole' (prefix-onto next.s' (b ∷ k.q))
+
     placed : unit e F (length next.s') * R ≡ u
     placed =
-      ap (λ x. unit e F (length next.s') * x) (sym (ap room at ∙ is_room))
-      ∙ sym (unit-suc e F (length next.s')) ∙ ap (unit e F) (sym (ap length next.shape)) ∙ at0
+        ap (λ x. unit e F (length next.s') * x) (sym (ap room at ∙ is_room))
+        ∙ sym (unit-suc e F (length next.s')) ∙ ap (unit e F) (sym (ap length next.shape)) ∙ at0
+
     number : num (b ∷ k.q) ≡ num k.q * R + b
     number = num-cons b k.q ∙ ap (λ x. num k.q * x + b) is_room
+
     sum : (t.c + b * 2 ^ x) * R + V * R * 2 ^ 16 ≡ num (b ∷ k.q) * 2 ^ 16
     sum = rw number (omega (arith, ap (λ n. n * R) reg0, ap (λ n. b * n) product))
+
     bound : num (b ∷ k.q) < (V + r.a) * R
     bound = subst (λ p. num (b ∷ k.q) < (V + r.a) * p) worth
-      (within e F u k.k k.h r.a r.bytes r.c r.ct n (length next.s') (b ∷ k.q) k.ahead few at
+        (within e F u k.k k.h r.a r.bytes r.c r.ct n (length next.s') (b ∷ k.q) k.ahead few at
         (subst (λ p. unit e F (length next.s') * p ≡ u) (sym worth) placed)).high
+
     room_left : (t.c + b * 2 ^ x) * R < r.a * 2 ^ 16 * R
     room_left = omega (arith, sum, bound)
+
     fits : t.c + b * 2 ^ x < r.a * 2 ^ 16
     fits = lt_of_mul-lt-mul_right R room_left
+
     exact : t'.c ≡ t.c + b * 2 ^ x
     exact = is_c ∙ mod-eq_of_lt (omega (arith, fits, narrow))
 
@@ -193,26 +214,29 @@ unfolding byte_in marker_in stuffed_byte_in whole_byte_in add_bits
 tracks-in' e F u r t small few narrow k at_zero =
     cond_both (t.current == 0xFF) _ _ (λ x. Tracks e F u r x × (0 < x.ct))
     (λ ff.
-      let is_ff : t.current ≡ 0xFF = eqb-true t.current 0xFF ff in
-      cond_both (nat_lt 0x8F (next_byte t.rest)) _ _ (λ x. Tracks e F u r x × (0 < x.ct))
-      (λ high.
-        let above : 0x8F < next_byte t.rest = ltb-true 0x8F (next_byte t.rest) high in
-        let none : t.rest ≡ [] = clean-after t.current t.rest k.clean above is_ff in
-        (tracks-byte e F u r t (marker_in t) 256 8 8 small few narrow k at_zero refl
+    let is_ff : t.current ≡ 0xFF = eqb-true t.current 0xFF ff in
+    cond_both (nat_lt 0x8F (next_byte t.rest)) _ _ (λ x. Tracks e F u r x × (0 < x.ct))
+    (λ high.
+    let above : 0x8F < next_byte t.rest = ltb-true 0x8F (next_byte t.rest) high in
+    let none : t.rest ≡ [] = clean-after t.current t.rest k.clean above is_ff in (
+      tracks-byte e F u r t (marker_in t) 256 8 8 small few narrow k at_zero refl
           (ap (λ n. (t.c + n) % 2 ^ 32) (sym (ap (λ n. n * 256) (fill-is t.rest none))))
           refl (is_ff ∙ sym (fill-is t.rest none)) (none ∙ sym (fill-behind t.rest none))
           (room-marker (next_byte t.rest) k.q above) refl refl,
-        omega arith))
-      (λ low.
-        let below : next_byte t.rest ≤ 0x8F = ltb-false 0x8F (next_byte t.rest) low in
-        (tracks-byte e F u r t (stuffed_byte_in t) 128 9 7 small few narrow k at_zero refl refl refl refl refl
+      omega arith,
+    ))
+    (λ low.
+    let below : next_byte t.rest ≤ 0x8F = ltb-false 0x8F (next_byte t.rest) low in (
+      tracks-byte e F u r t (stuffed_byte_in t) 128 9 7 small few narrow k at_zero refl refl refl refl refl
           (room-stuffed (next_byte t.rest) k.q (sym k.current ∙ is_ff) below) refl refl,
-        omega arith)))
+      omega arith,
+    )))
     (λ other.
-      let not_ff : t.current ≢ 0xFF = eqb-false t.current 0xFF other in
-      (tracks-byte e F u r t (whole_byte_in t) 256 8 8 small few narrow k at_zero refl refl refl refl refl
-        (room-whole (next_byte t.rest) k.q (λ p. not_ff (k.current ∙ p))) refl refl,
-      omega arith))
+    let not_ff : t.current ≢ 0xFF = eqb-false t.current 0xFF other in (
+      tracks-byte e F u r t (whole_byte_in t) 256 8 8 small few narrow k at_zero refl refl refl refl refl
+          (room-whole (next_byte t.rest) k.q (λ p. not_ff (k.current ∙ p))) refl refl,
+      omega arith,
+    ))
 
 pub tracks-in :
     (e : ℕ) (F : List ℕ) (u : ℕ) (r : Registers) (t : Reading) →

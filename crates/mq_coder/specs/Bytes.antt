@@ -16,9 +16,9 @@ registers_of at bytes = record { a = at.a; c = at.c; ct = at.ct; bytes = reverse
 -- the byte that comes out behind a last byte, from a code register c
 pub record IsNext (last c : ℕ) (n : NextByte) : Type 0 where
   pub out :
-    (a ct : ℕ) (bytes : List ℕ) → last_byte bytes ≡ last →
-    byte_out (record { a = a; c = c; ct = ct; bytes = bytes }) ≡
-    record { a = a; c = n.c; ct = n.ct; bytes = n.byte ∷ with_last n.last bytes }
+      (a ct : ℕ) (bytes : List ℕ) → last_byte bytes ≡ last →
+      byte_out (record { a = a; c = c; ct = ct; bytes = bytes }) ≡
+      record { a = a; c = n.c; ct = n.ct; bytes = n.byte ∷ with_last n.last bytes }
 
 unfoldable pub doublings : ℕ → Registers → Registers
 doublings zero r = r

@@ -1,5 +1,5 @@
 -- What contracts see of a coder: the encoder of the charts.
-use Rattle.std.specs.Prelude.{◌≡◌, ℕ, ◌<◌, List, map, length, get_or, reverse}
+use Rattle.std.specs.Prelude.{ℕ, ◌<◌, map, get_or}
 use Rattle.mast_world.specs.Mq.{Encoder}
 use Rattle.mq_coder.specs.Bytes.{registers_of}
 use Rattle.mq_coder.specs.Ready.{Ready}

@@ -8,6 +8,6 @@ use Rattle.mq_coder.specs.declared.tail.Tail.{Tail}
 -- the flush of these registers, behind a last byte
 pub record IsTail (last : ℕ) (at : Interval) (t : Tail) : Type 0 where
   pub out :
-    (bytes : List ℕ) → last_byte bytes ≡ last →
-    (shifted_out (shifted_out (bits_set (record { a = at.a; c = at.c; ct = at.ct; bytes = bytes })))).bytes ≡
-    t.second ∷ t.first ∷ with_last t.last bytes
+      (bytes : List ℕ) → last_byte bytes ≡ last →
+      (shifted_out (shifted_out (bits_set (record { a = at.a; c = at.c; ct = at.ct; bytes = bytes })))).bytes ≡
+      t.second ∷ t.first ∷ with_last t.last bytes

@@ -1,6 +1,6 @@
 -- The decoder's registers, and doublings by a count.
-use Rattle.std.specs.Prelude.{◌≡◌, ℕ, zero, suc, ◌<◌, ◌≤◌, ◌^◌, List, map, get_or}
-use Rattle.mast_world.specs.Mq.{Reading, Decoder, in_at_zero, read_on}
+use Rattle.std.specs.Prelude.{ℕ, zero, suc}
+use Rattle.mast_world.specs.Mq.{Reading, in_at_zero, read_on}
 use Rattle.mq_coder.specs.declared.window.Window.{Window}
 
 abbrev pub reading_of : Window → Reading

@@ -1,12 +1,10 @@
-use std::alloc::Global;
-use std::marker::Model;
-
-use mast_world::{Bytes, NoMemory};
-
 use crate::ending::{Ending, front_len, last_mark};
 use crate::interval::{Interval, last_of, part_of, renormalise};
 use crate::rows::{START, row_of};
 use crate::tail::{end_with, tail_of};
+use mast_world::{Bytes, NoMemory};
+use std::alloc::Global;
+use std::marker::Model;
 
 /// An encoder of decisions. Contracts see the registers of T.800's encoder, and the states of its contexts.
 #[derive(Debug, Drop)]
@@ -103,10 +101,8 @@ impl Coder {
         ensures bytes { IfOk result (λ bytes. bytes ≡ flushed_bytes self) }
         ensures codeword { IfOk result (λ bytes. (ds : List Decision) → self ≡ coded ds → bytes ≡ codeword ds) }
         // Read in the contexts of the decisions in order, the codeword gives their bits.
-        ensures read_back {
-            IfOk result (λ bytes. (ds : List Decision) → self ≡ coded ds →
-                decoded bytes (contexts_of ds) ≡ bits_of ds)
-        }
+        ensures read_back { IfOk result (λ bytes. (ds : List Decision) → self ≡ coded ds →
+            decoded bytes (contexts_of ds) ≡ bits_of ds) }
     {
         let Coder {
             at,

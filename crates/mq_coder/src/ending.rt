@@ -3,12 +3,10 @@ ghost use Rattle.mast_world.specs.Mq.{Decision, behind, coded, codeword};
 ghost use Rattle.mq_coder.specs.Endings.{Continues};
 ghost use Rattle.mq_coder.specs.Marks.{mark_of};
 
-use std::alloc::Global;
-
-use mast_world::{Bytes, NoMemory};
-
 use crate::interval::{Interval, last_of};
 use crate::tail::{end_with, tail_of};
+use mast_world::{Bytes, NoMemory};
+use std::alloc::Global;
 
 /// The registers of an encoder at a place where its codeword may end.
 #[derive(Clone, Copy, Debug, PartialEq, Eq)]
@@ -49,10 +47,8 @@ pub(crate) fn front_len(bytes: &[u8]) -> usize
 // The bytes that had come out, up to a carry.
 fn begun(alloc: Global, bytes: &[u8], ending: &Ending) -> Result<Bytes, NoMemory>
     requires { (ds : List Decision) × Continues ds bytes.now ending.now }
-    ensures {
-        (ds : List Decision) → Continues ds bytes.now ending.now →
-            IfOk result (λ out. reverse out ≡ (coded ds).registers.bytes)
-    }
+    ensures { (ds : List Decision) → Continues ds bytes.now ending.now →
+        IfOk result (λ out. reverse out ≡ (coded ds).registers.bytes) }
 {
     let mut out = Bytes::copy_of(alloc, &bytes[..ending.kept as usize])?;
     if 0 < ending.a >> 24 {
@@ -65,9 +61,7 @@ fn begun(alloc: Global, bytes: &[u8], ending: &Ending) -> Result<Bytes, NoMemory
 /// of that encoder.
 pub fn flushed(alloc: Global, bytes: &[u8], ending: &Ending) -> Result<Bytes, NoMemory>
     requires { (ds : List Decision) × Continues ds bytes.now ending.now }
-    ensures {
-        (ds : List Decision) → Continues ds bytes.now ending.now → IfOk result (λ out. out ≡ codeword ds)
-    }
+    ensures { (ds : List Decision) → Continues ds bytes.now ending.now → IfOk result (λ out. out ≡ codeword ds) }
 {
     let mut out = begun(alloc, bytes, ending)?;
     let at = Interval {

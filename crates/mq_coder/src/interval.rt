@@ -109,11 +109,7 @@ fn take_back(bytes: &mut Bytes, last: u8)
 
 /// The interval after `shift` doublings, with the bytes that they put out (RENORME, C.2.6).
 /// After `NoMemory` the bytes are as they were.
-pub(crate) fn doubled(
-    bytes: &mut Bytes,
-    at: Interval,
-    shift: u32,
-) -> Result<Interval, NoMemory>
+pub(crate) fn doubled(bytes: &mut Bytes, at: Interval, shift: u32) -> Result<Interval, NoMemory>
     requires valid { Valid (registers_of at bytes.old) }
     requires narrow { at.a * 2 ^ shift < 2 ^ 16 }
     ensures ok { IfOk result (λ r. doublings shift (registers_of at bytes.old) ≡ registers_of r bytes.new) }

@@ -1,7 +1,6 @@
-use std::marker::Model;
-
 use crate::rows::{START, row_of};
-use crate::window::{Window, renormalise, split, with_byte};
+use crate::window::{Window, part_of, renormalise, split, with_byte};
+use std::marker::Model;
 
 /// A decoder over the bytes of a codeword; behind their end it finds bytes FF. Contracts see T.800's decoder.
 #[derive(Debug, Drop)]
@@ -57,31 +56,12 @@ impl<'a> Reader<'a> {
         ensures after { self.new ≡ decoder_after self.old context }
     {
         let row = row_of(self.states[context as usize]);
-        let at = self.at;
-        let rest = at.a - row.qe;
-        let is_lower = at.c >> 16 < row.qe;
-        let part = if is_lower {
-            Window {
-                a: row.qe,
-                c: at.c,
-                ct: at.ct,
-                current: at.current,
-                rest: at.rest,
-            }
-        } else {
-            Window {
-                a: rest,
-                c: at.c - (row.qe << 16),
-                ct: at.ct,
-                current: at.current,
-                rest: at.rest,
-            }
-        };
+        let is_mps = (self.at.a - row.qe < row.qe) == (self.at.c >> 16 < row.qe);
+        let part = part_of(self.at, row.qe);
         if 0x8000 <= part.a {
             self.at = part;
             return row.mps;
         }
-        let is_mps = (rest < row.qe) == is_lower;
         self.at = renormalise(part);
         self.states[context as usize] = if is_mps { row.after_mps } else { row.after_lps };
         is_mps == row.mps

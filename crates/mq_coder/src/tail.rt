@@ -4,9 +4,8 @@ ghost use Rattle.mq_coder.specs.Bytes.{with_last};
 ghost use Rattle.mq_coder.specs.Tails.{IsTail};
 ghost use Rattle.mq_coder.specs.Values.{flushed_value};
 
-use mast_world::{Bytes, NoMemory};
-
 use crate::interval::{Interval, next_byte, put};
+use mast_world::{Bytes, NoMemory};
 
 /// What a flush makes of the last byte, and the two bytes that it puts behind it.
 #[derive(Clone, Copy, Debug)]
@@ -44,10 +43,8 @@ pub(crate) fn tail_of(last: u8, at: Interval) -> Tail
 
 /// Puts the end of a flush behind the bytes.
 pub(crate) fn end_with(bytes: &mut Bytes, tail: Tail) -> Result<(), NoMemory>
-    ensures {
-        OnOk result
-            (reverse bytes.new ≡ without_last_ff (tail.second ∷ tail.first ∷ with_last tail.last (reverse bytes.old)))
-    }
+    ensures { OnOk result
+        (reverse bytes.new ≡ without_last_ff (tail.second ∷ tail.first ∷ with_last tail.last (reverse bytes.old))) }
 {
     put(bytes, tail.last, tail.first)?;
     if tail.second != 0xff {

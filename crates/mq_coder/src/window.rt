@@ -1,5 +1,5 @@
 ghost use Rattle.std.specs.Prelude.{◌≡◌, ◌*◌, ◌+◌, ◌-◌, ◌^◌, ◌%◌, ◌<◌, ◌≤◌};
-ghost use Rattle.mast_world.specs.Mq.{next_byte, behind, byte_in, renormalised_reading};
+ghost use Rattle.mast_world.specs.Mq.{next_byte, behind, byte_in, renormalised_reading, part_read};
 ghost use Rattle.mq_coder.specs.Windows.{reading_of, read_doublings};
 
 /// The interval A, the code register C, and the doublings CT before the next byte; the current byte and
@@ -105,4 +105,29 @@ pub(crate) fn renormalise(at: Window<'_>) -> Window<'_>
     ensures narrow { result.a < 2 ^ 16 }
 {
     read_on(at, at.a.leading_zeros() - 16)
+}
+
+/// The part of the interval in which the register lies (DECODE, C.3.2).
+pub(crate) fn part_of(at: Window<'_>, qe: u32) -> Window<'_>
+    requires qe { qe ≤ 0x5601 }
+    requires wide { 0x8000 ≤ at.a }
+    ensures part { reading_of result ≡ part_read qe (reading_of at.entry) }
+    ensures ct { result.ct ≡ at.entry.ct }
+{
+    if at.c >> 16 < qe {
+        return Window {
+            a: qe,
+            c: at.c,
+            ct: at.ct,
+            current: at.current,
+            rest: at.rest,
+        };
+    }
+    Window {
+        a: at.a - qe,
+        c: at.c - (qe << 16),
+        ct: at.ct,
+        current: at.current,
+        rest: at.rest,
+    }
 }

@@ -1,4 +1,4 @@
-use Rattle.std.proofs.Common.{◌≡◌, reverse, refl, ap, sym, ◌∙◌, arith}
+use Rattle.std.proofs.Common.{◌≡◌, reverse, refl, ap, ◌∙◌}
 use Rattle.mast_world.specs.Mq.{last_byte, coded}
 use Rattle.mq_coder.proofs.Resume.{holds, wide-of, shifts-of, within-of, resumed}
 use Rattle.mq_coder.proofs.ending.flushed.Goals as goal
@@ -20,7 +20,7 @@ tail_of-tail-requires-clause-within c =
 pub returns : goal.returns
 returns c =
     λ ds k.
-      let last : c.last_of.result ≡ last_byte (reverse c.in_ok-out.out) =
-        c.last_of.ensures ∙ ap (λ l. last_byte (reverse l)) c.as_slice.ensures in
-      resumed ds c.args.bytes.now c.in_ok-out.out c.args.ending.now _ c.end_with.new.bytes c.last_of.result c.tail_of-tail.result
-      k (c.in_ok-out.ensures ds k) refl refl c.from.ensures last c.tail_of-tail.ensures c.in_ok-end_with.ensures
+    let last : c.last_of.result ≡ last_byte (reverse c.in_ok-out.out) =
+    c.last_of.ensures ∙ ap (λ l. last_byte (reverse l)) c.as_slice.ensures in
+    resumed ds c.args.bytes.now c.in_ok-out.out c.args.ending.now _ c.end_with.new.bytes c.last_of.result c.tail_of-tail.result
+    k (c.in_ok-out.ensures ds k) refl refl c.from.ensures last c.tail_of-tail.ensures c.in_ok-end_with.ensures

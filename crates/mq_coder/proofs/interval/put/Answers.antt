@@ -1,4 +1,4 @@
-use Rattle.std.proofs.Common.{◌≡◌, ◌<◌, ◌-◌, ◌++◌, [], ◌∷◌, length, set, reverse, ap, ap₂, ◌∙◌, arith}
+use Rattle.std.proofs.Common.{◌<◌, ◌-◌, length, set, reverse, ap, ap₂, ◌∙◌, arith}
 use Rattle.mq_coder.proofs.Outputs.{set-before}
 use Rattle.mq_coder.proofs.interval.put.Goals as goal
 

@@ -1,5 +1,4 @@
-use Rattle.std.proofs.Common.{◌≡◌, ◌<◌, ◌-◌, length, set, reverse, ap, sym, ◌∙◌, arith}
-use Rattle.mast_world.specs.Mq.{behind}
+use Rattle.std.proofs.Common.{◌<◌, ◌-◌, length, set, reverse, ap, sym, ◌∙◌, arith}
 use Rattle.mq_coder.specs.Bytes.{with_last}
 use Rattle.mq_coder.proofs.Outputs.{set-last, behind-pop, with_last-empty}
 use Rattle.mq_coder.proofs.interval.take_back.Goals as goal

@@ -1,5 +1,4 @@
 use Rattle.std.proofs.Common.{◌∷◌, ap, reverse, ◌∙◌}
-use Rattle.mast_world.specs.Mq.{without_last_ff}
 use Rattle.mq_coder.specs.Bytes.{with_last}
 use Rattle.mq_coder.proofs.Outputs.{reverse-push}
 use Rattle.mq_coder.proofs.Endings.{dropped, kept}

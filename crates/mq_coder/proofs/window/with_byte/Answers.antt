@@ -1,5 +1,5 @@
-use Rattle.std.proofs.Common.{◌≡◌, ℕ, ◌+◌, ◌*◌, ◌%◌, ◌^◌, ◌<◌, ◌≤◌, List, refl, sym, ap, ap₂, ◌∙◌, arith, mod-eq_of_lt}
-use Rattle.mast_world.specs.Mq.{next_byte, behind, byte_in}
+use Rattle.std.proofs.Common.{◌≡◌, ◌+◌, ◌*◌, ◌%◌, ◌^◌, ◌<◌, ◌≤◌, sym, ap, ap₂, ◌∙◌, arith, mod-eq_of_lt}
+use Rattle.mast_world.specs.Mq.{next_byte}
 use Rattle.mq_coder.specs.Windows.{reading_of}
 use Rattle.mq_coder.proofs.Inputs.{reading, in-whole, in-marker, in-stuffed}
 use Rattle.mq_coder.proofs.window.with_byte.Goals as goal

@@ -1,4 +1,4 @@
-use Rattle.std.proofs.Common.{◌≡◌, ℕ, ◌≤◌, ◌<◌, ◌^◌, cond, map, set, reverse, get_or, ap, sym, ◌∙◌, arith}
+use Rattle.std.proofs.Common.{◌≡◌, cond, get_or, ap, sym, ◌∙◌, arith}
 use Rattle.std.specs.Bool.{beq}
 use Rattle.std.proofs.lemmas.Bool.{cond-true, cond-false}
 use Rattle.mast_world.specs.Mq.{coded_one}
@@ -19,8 +19,8 @@ invariant_of-self c =
     record {
       ready = record {
         valid = code-valid c.self.inside.states c.args.context c.args.bit c.row_of-row.result r
-          (registers_of c.part_of-part.result c.self.inside.bytes) c.self.invariant.ready c.row_of-row.ensures
-          (c.part_of-part.ensures c.self.inside.bytes);
+            (registers_of c.part_of-part.result c.self.inside.bytes) c.self.invariant.ready c.row_of-row.ensures
+            (c.part_of-part.ensures c.self.inside.bytes);
         high = c.if-part-ge32768.true;
       };
       states = c.self.invariant.states;
@@ -43,28 +43,28 @@ renormalise-requires-clause-valid c =
 pub invariant_of-self-2 : goal.invariant_of-self-2
 invariant_of-self-2 c =
     let chosen : c.if-is_mps.self ≡ cond (beq c.args.bit c.row_of-row.result.mps) c.row_of-row.result.after_mps c.row_of-row.result.after_lps =
-      elim c.if-is_mps.branch [
-        then-is_mps w ↦ w.self-is ∙ sym (cond-true _ _ _ w.if-is_mps.true)
+    elim c.if-is_mps.branch [
+      | then-is_mps w ↦ w.self-is ∙ sym (cond-true _ _ _ w.if-is_mps.true)
       | else-is_mps w ↦ w.self-is ∙ sym (cond-false _ _ _ w.if-is_mps.false)
-      ] in
+    ] in
     record {
       ready = moved-ready c.self.inside.states c.args.context c.args.bit c.row_of-row.result
-        (registers_of c.self.inside.at c.self.inside.bytes) (registers_of c.part_of-part.result c.self.inside.bytes)
-        (registers_of c.in_ok-self-inside.field-0 c.renormalise.new.bytes) c.self.invariant.ready c.row_of-row.ensures
-        (c.part_of-part.ensures c.self.inside.bytes) c.in_ok-self-inside.ensures.ok;
+          (registers_of c.self.inside.at c.self.inside.bytes) (registers_of c.part_of-part.result c.self.inside.bytes)
+          (registers_of c.in_ok-self-inside.field-0 c.renormalise.new.bytes) c.self.invariant.ready c.row_of-row.ensures
+          (c.part_of-part.ensures c.self.inside.bytes) c.in_ok-self-inside.ensures.ok;
       states = states-set c.self.inside.states c.args.context c.if-is_mps.self
-        (next-below (beq c.args.bit c.row_of-row.result.mps) (get_or c.self.inside.states c.args.context 0) c.if-is_mps.self
+          (next-below (beq c.args.bit c.row_of-row.result.mps) (get_or c.self.inside.states c.args.context 0) c.if-is_mps.self
           c.row_of-row.result c.row_of-row.ensures chosen)
-        c.self.invariant.states;
+          c.self.invariant.states;
     }
 
 pub returns-clause-ok : goal.returns-clause-ok
 returns-clause-ok c =
     let chosen : c.if-is_mps.self ≡ cond (beq c.args.bit c.row_of-row.result.mps) c.row_of-row.result.after_mps c.row_of-row.result.after_lps =
-      elim c.if-is_mps.branch [
-        then-is_mps w ↦ w.self-is ∙ sym (cond-true _ _ _ w.if-is_mps.true)
+    elim c.if-is_mps.branch [
+      | then-is_mps w ↦ w.self-is ∙ sym (cond-true _ _ _ w.if-is_mps.true)
       | else-is_mps w ↦ w.self-is ∙ sym (cond-false _ _ _ w.if-is_mps.false)
-      ] in
+    ] in
     moved-code c.self.inside.states c.args.context c.if-is_mps.self c.args.bit c.row_of-row.result
     (registers_of c.self.inside.at c.self.inside.bytes) (registers_of c.part_of-part.result c.self.inside.bytes)
     (registers_of c.in_ok-self-inside.field-0 c.renormalise.new.bytes) c.self.invariant.ready c.row_of-row.ensures
