@@ -11,7 +11,7 @@ use Rattle.mq_coder.proofs.Steps.{regs, doubled-quiet, valid-doubled, doubled-wi
 use Rattle.mq_coder.proofs.Decisions.{renorm-done, renorm-more}
 use Rattle.mq_coder.proofs.Outputs.{with_last-same}
 
-regs-eq :
+pub regs-eq :
     (a a' c c' ct ct' : ℕ) (bytes : List ℕ) → a ≡ a' → c ≡ c' → ct ≡ ct' → regs a c ct bytes ≡ regs a' c' ct' bytes
 regs-eq a a' c c' ct ct' bytes p q r = rw (p, q, r) refl
 

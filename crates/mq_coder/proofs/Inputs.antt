@@ -5,7 +5,7 @@ use lib.Count.{count_leading_zeros}
 use Rattle.std.proofs.lemmas.Bool.{cond-true, cond-false, eq-eqb, ne_eqb, lt-ltb, le-ltb, ltb-true, ltb-false}
 use Rattle.std.proofs.lemmas.Nat.{mul-mod_first}
 use Rattle.mast_world.specs.Mq.{Reading, next_byte, behind, add_bits, byte_in, marker_in, stuffed_byte_in, whole_byte_in, in_at_zero, read_on, renormalised_reading}
-use Rattle.mq_coder.specs.Windows.{read_doublings}
+use Rattle.mq_coder.specs.Sources.{read_doublings}
 use Rattle.mq_coder.proofs.Coding.{count-of}
 
 -- ---- the next byte

@@ -8,4 +8,4 @@ pub mod Rows
 pub mod Seen
 pub mod Tails
 pub mod Values
-pub mod Windows
+pub mod Sources

@@ -107,6 +107,21 @@ fn take_back(bytes: &mut Bytes, last: u8)
     }
 }
 
+/// The interval after doublings that need no byte.
+pub(crate) fn shifted(at: Interval, shift: u32) -> Interval
+    requires few { shift ≤ at.ct }
+    requires shifts { at.ct ≤ 12 }
+    ensures a { result.a ≡ at.a * 2 ^ shift % 2 ^ 32 }
+    ensures c { result.c ≡ at.c * 2 ^ shift % 2 ^ 32 }
+    ensures ct { result.ct ≡ at.ct - shift }
+{
+    Interval {
+        a: at.a << shift,
+        c: at.c << shift,
+        ct: at.ct - shift,
+    }
+}
+
 /// The interval after `shift` doublings, with the bytes that they put out (RENORME, C.2.6).
 /// After `NoMemory` the bytes are as they were.
 pub(crate) fn doubled(bytes: &mut Bytes, at: Interval, shift: u32) -> Result<Interval, NoMemory>
@@ -116,11 +131,7 @@ pub(crate) fn doubled(bytes: &mut Bytes, at: Interval, shift: u32) -> Result<Int
     ensures err { OnErr result (bytes.new ≡ bytes.old) }
 {
     if shift < at.ct {
-        return Ok(Interval {
-            a: at.a << shift,
-            c: at.c << shift,
-            ct: at.ct - shift,
-        });
+        return Ok(shifted(at, shift));
     }
     let last = last_of(bytes.as_slice());
     let next = next_byte(last, at.c << at.ct);
@@ -147,7 +158,11 @@ pub(crate) fn renormalise(bytes: &mut Bytes, at: Interval) -> Result<Interval, N
     ensures ok { IfOk result (λ r. renormalised 15 (registers_of at bytes.old) ≡ registers_of r bytes.new) }
     ensures err { OnErr result (bytes.new ≡ bytes.old) }
 {
-    doubled(bytes, at, at.a.leading_zeros() - 16)
+    let shift = at.a.leading_zeros() - 16;
+    if shift < at.ct {
+        return Ok(shifted(at, shift));
+    }
+    doubled(bytes, at, shift)
 }
 
 /// The part of the interval that a decision keeps (CODEMPS and CODELPS, C.2.4).

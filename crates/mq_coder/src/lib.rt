@@ -6,8 +6,8 @@ mod ending;
 mod interval;
 mod reader;
 mod rows;
+mod source;
 mod tail;
-mod window;
 
 pub use coder::Coder;
 pub use ending::{Ending, flushed};

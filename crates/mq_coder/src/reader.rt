@@ -1,11 +1,13 @@
+use crate::interval::Interval;
 use crate::rows::{START, row_of};
-use crate::window::{Window, part_of, renormalise, split, with_byte};
+use crate::source::{Source, part_of, renormalise, split, take_byte};
 use std::marker::Model;
 
 /// A decoder over the bytes of a codeword; behind their end it finds bytes FF. Contracts see T.800's decoder.
 #[derive(Debug, Drop)]
 pub struct Reader<'a> {
-    at: Window<'a>,
+    at: Interval,
+    source: Source<'a>,
     states: [u8; 19],
 }
 
@@ -30,21 +32,15 @@ impl<'a> Reader<'a> {
         ensures { result ≡ decoder_of bytes.now }
     {
         let (current, rest) = split(bytes);
-        let first = with_byte(Window {
-            a: 0x8000,
-            c: u32::from(current) << 16,
-            ct: 0,
-            current,
-            rest,
-        });
+        let mut source = Source { current, rest };
+        let first = take_byte(&mut source, u32::from(current) << 16);
         Reader {
-            at: Window {
-                a: first.a,
+            at: Interval {
+                a: 0x8000,
                 c: first.c << 7,
                 ct: first.ct - 7,
-                current: first.current,
-                rest: first.rest,
             },
+            source,
             states: START,
         }
     }
@@ -62,7 +58,7 @@ impl<'a> Reader<'a> {
             self.at = part;
             return row.mps;
         }
-        self.at = renormalise(part);
+        self.at = renormalise(&mut self.source, part);
         self.states[context as usize] = if is_mps { row.after_mps } else { row.after_lps };
         is_mps == row.mps
     }

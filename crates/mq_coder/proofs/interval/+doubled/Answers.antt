@@ -2,12 +2,14 @@ use Rattle.std.proofs.Common.{◌≡◌, ◌-◌, ◌*◌, ◌^◌, ◌<◌, rev
 use Rattle.mast_world.specs.Mq.{behind, last_byte}
 use Rattle.mq_coder.specs.Bytes.{with_last, doublings}
 use Rattle.mq_coder.specs.Ready.{Valid}
-use Rattle.mq_coder.proofs.Doublings.{Over, quiet, over, rest-is, taken-back}
+use Rattle.mq_coder.proofs.Doublings.{Over, regs-eq, quiet, over, rest-is, taken-back}
 use Rattle.mq_coder.proofs.interval.+doubled.Goals as goal
 
 pub returns-then-shift-at-clause-ok : goal.returns-then-shift-at-clause-ok
 returns-then-shift-at-clause-ok t c =
+    let e = c.shifted.ensures in
     quiet c.args.at.a c.args.at.c c.args.at.ct c.args.shift (reverse c.args.bytes.now) c.requires.valid c.requires.narrow c.if-shift-at.true
+    ∙ sym (regs-eq _ _ _ _ _ _ (reverse c.args.bytes.now) e.a e.c e.ct)
 
 pub doubled-requires : goal.doubled-requires
 doubled-requires t c =

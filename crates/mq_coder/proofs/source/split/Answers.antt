@@ -1,6 +1,6 @@
 use Rattle.std.proofs.Common.{arith}
 use Rattle.mq_coder.proofs.Inputs.{split-none, split-byte, split-rest, rest-none}
-use Rattle.mq_coder.proofs.window.split.Goals as goal
+use Rattle.mq_coder.proofs.source.split.Goals as goal
 
 pub returns-in-empty-clause-byte : goal.returns-in-empty-clause-byte
 returns-in-empty-clause-byte c = split-none c.args.bytes.now (omega arith)
