@@ -1,18 +1,19 @@
 -- One decision, as the coder does it: a part, and the doublings that it needs.
-use Rattle.std.proofs.Common.{◌≡◌, ℕ, zero, suc, ◌+◌, ◌-◌, ◌*◌, ◌^◌, ◌<◌, ◌≤◌, Bool, true, false, not, cond, ◌&&◌, List, [], ◌∷◌, map, set, get_or, refl, sym, ap, ap₂, subst, ◌∙◌, inl, inr, arith, pow-suc, pow-add, pow_pos, pow_mono, mul-le-mul_right, mul-lt-mul_of_pos_right}
+use Rattle.std.proofs.Common.{◌≡◌, ℕ, zero, suc, ◌+◌, ◌-◌, ◌*◌, ◌^◌, ◌<◌, ◌≤◌, Bool, true, false, not, cond, ◌&&◌, List, [], ◌∷◌, map, set, get_or, refl, sym, ap, ap₂, subst, ◌∙◌, inl, inr, arith, pow-suc, pow-add, pow_pos, pow_mono, mul-le-mul_right, mul-lt-mul_of_pos_right, reverse, ◌%◌}
 use Rattle.std.specs.Prelude.{nat_lt, nat_le}
 use Rattle.std.specs.Bool.{beq}
 use lib.Count.{count_leading_zeros}
 use Rattle.std.proofs.lemmas.Bool.{cases_lt, cond-true, cond-false, ltb-true, le-ltb, le-leb, lt-leb, and_parts}
 use Rattle.std.proofs.lemmas.Nat.{leading_top}
 use Rattle.mast_world.specs.Mq.{Registers, State, Encoder, qe_of, after_mps, after_lps, state_at, is_mps, lower_part, upper_part, renormalised, coded_one, start, start_states}
-use Rattle.mq_coder.specs.Bytes.{doublings}
+use Rattle.mq_coder.specs.Bytes.{doublings, registers_of}
 use Rattle.mq_coder.specs.Parts.{lower_kept, part_kept}
 use Rattle.mq_coder.specs.Ready.{Clean, Carries, Valid, Ready}
 use Rattle.mq_coder.specs.Rows.{state_of, IsRow}
 use Rattle.mq_coder.specs.declared.rows.Row.{Row}
 use Rattle.mq_coder.proofs.Decisions.{renorm-done, part-cases, valid-part, ready-part, coded-registers, coded-states, states_coded-is, qe-small}
-use Rattle.mq_coder.proofs.Doublings.{doublings-renormalise}
+use Rattle.mq_coder.proofs.Doublings.{doublings-renormalise, quiet, regs-eq}
+use Rattle.mq_coder.specs.declared.interval.Interval.{Interval}
 
 -- ---- the test of the part
 
@@ -88,6 +89,20 @@ pub renormalise-is :
 renormalise-is r v low =
     let n = count-of r.a v.sound.positive low in
     doublings-renormalise (count_leading_zeros 32 r.a - 16) 15 r v n.few n.high n.narrow
+
+pub shifted-is :
+    (at next : Interval) (bytes : List ℕ) → Valid (registers_of at bytes) → at.a < 0x8000 →
+    count_leading_zeros 32 at.a - 16 < at.ct →
+    next.a ≡ at.a * 2 ^ (count_leading_zeros 32 at.a - 16) % 2 ^ 32 →
+    next.c ≡ at.c * 2 ^ (count_leading_zeros 32 at.a - 16) % 2 ^ 32 →
+    next.ct ≡ at.ct - (count_leading_zeros 32 at.a - 16) →
+    renormalised 15 (registers_of at bytes) ≡ registers_of next bytes
+shifted-is at next bytes v low few a c ct =
+    let s = count_leading_zeros 32 at.a - 16 in
+    let n = count-of at.a v.sound.positive low in
+    renormalise-is (registers_of at bytes) v low
+    ∙ quiet at.a at.c at.ct s (reverse bytes) v n.narrow few
+    ∙ sym (regs-eq next.a (at.a * 2 ^ s % 2 ^ 32) next.c (at.c * 2 ^ s % 2 ^ 32) next.ct (at.ct - s) (reverse bytes) a c ct)
 
 -- ---- the states
 

@@ -1,5 +1,5 @@
 use crate::ending::{Ending, front_len, last_mark};
-use crate::interval::{Interval, last_of, part_of, renormalise};
+use crate::interval::{Interval, doubled, last_of, part_of, shifted};
 use crate::rows::{START, row_of};
 use crate::tail::{end_with, tail_of};
 use mast_world::{Bytes, NoMemory};
@@ -59,8 +59,15 @@ impl Coder {
             self.at = part;
             return Ok(());
         }
-        self.at = renormalise(&mut self.bytes, part)?;
-        self.states[context as usize] = if is_mps { row.after_mps } else { row.after_lps };
+        let next = if is_mps { row.after_mps } else { row.after_lps };
+        let shift = part.a.leading_zeros() - 16;
+        if shift < part.ct {
+            self.at = shifted(part, shift);
+            self.states[context as usize] = next;
+            return Ok(());
+        }
+        self.at = doubled(&mut self.bytes, part, shift)?;
+        self.states[context as usize] = next;
         Ok(())
     }
 

@@ -1,5 +1,5 @@
 ghost use Rattle.std.specs.Prelude.{◌≡◌, ◌+◌, ◌-◌, ◌*◌, ◌/◌, ◌%◌, ◌^◌, ◌<◌, ◌≤◌, ◌∷◌, IfOk, OnOk, OnErr, ℕ, List, reverse};
-ghost use Rattle.mast_world.specs.Mq.{last_byte, behind, renormalised};
+ghost use Rattle.mast_world.specs.Mq.{last_byte, behind};
 ghost use Rattle.mq_coder.specs.Bytes.{with_last, registers_of, IsNext, doublings};
 ghost use Rattle.mq_coder.specs.Parts.{part_kept};
 ghost use Rattle.mq_coder.specs.Ready.{Valid};
@@ -148,21 +148,6 @@ pub(crate) fn doubled(bytes: &mut Bytes, at: Interval, shift: u32) -> Result<Int
             Err(NoMemory)
         }
     }
-}
-
-/// The interval after as many doublings as bring A to 8000.
-/// After `NoMemory` the bytes are as they were.
-pub(crate) fn renormalise(bytes: &mut Bytes, at: Interval) -> Result<Interval, NoMemory>
-    requires valid { Valid (registers_of at bytes.old) }
-    requires low { at.a < 0x8000 }
-    ensures ok { IfOk result (λ r. renormalised 15 (registers_of at bytes.old) ≡ registers_of r bytes.new) }
-    ensures err { OnErr result (bytes.new ≡ bytes.old) }
-{
-    let shift = at.a.leading_zeros() - 16;
-    if shift < at.ct {
-        return Ok(shifted(at, shift));
-    }
-    doubled(bytes, at, shift)
 }
 
 /// The part of the interval that a decision keeps (CODEMPS and CODELPS, C.2.4).
