@@ -3,8 +3,8 @@ use Rattle.std.proofs.Common.{◌≡◌, ℕ, ◌+◌, ◌-◌, ◌*◌, ◌/◌
 use Rattle.std.specs.Prelude.{bit_and}
 use Rattle.std.proofs.lemmas.List.{reverse-reverse, length-reverse}
 use Rattle.std.proofs.lemmas.Nat.{and_mask}
-use Rattle.mast_world.specs.Mq.{Registers, Decision, last_byte, behind, coded, start, codeword, without_last_ff}
-use Rattle.mq_coder.specs.Endings.{Continues}
+use Rattle.mast_world.specs.Mq.{Registers, Decision, last_byte, behind, coded, coded_from, start, codeword, without_last_ff}
+use Rattle.mq_coder.specs.Endings.{Continues, ending_of}
 use Rattle.mq_coder.specs.Marks.{mark_of}
 use Rattle.mq_coder.specs.Ready.{Clean, Ready}
 use Rattle.mq_coder.specs.Bytes.{with_last, registers_of}
@@ -133,3 +133,33 @@ resumed ds bytes out en at new last t k is_out is_a is_c is_ct is_last tail is_n
     let same : record { registers = registers_of at out; states = (coded ds).states } ≡ coded ds =
     rw (is_a, low-half r bytes en h, is_c, h.c, is_ct, h.ct, is_out) refl in
     flushed-is (coded ds) at out new (coded ds).states last t same is_last tail is_new
+
+-- ---- an ending of no decisions
+
+coded-none : coded [] ≡ start
+unfolding coded coded_from
+coded-none = refl
+
+start-bytes : start.registers.bytes ≡ []
+unfolding start
+start-bytes = refl
+
+none-kept : reverse (behind []) ≡ []
+unfolding behind
+none-kept = refl
+
+behind-none : length (behind []) ≡ 0
+unfolding behind
+behind-none = refl
+
+take-none : (n : ℕ) (xs : List ℕ) → n ≡ 0 → take n xs ≡ []
+take-none n xs p = ap (λ n. take n xs) p
+
+pub continues-start : (bytes : List ℕ) (en : Ending) → en ≡ ending_of start → Continues [] bytes en
+continues-start bytes en p =
+    let none : (coded []).registers.bytes ≡ [] = ap (λ e. e.registers.bytes) coded-none ∙ start-bytes in
+    let kept : en.kept ≡ 0 = ap (λ e. e.kept) p ∙ ap (λ l. length (behind l)) start-bytes ∙ behind-none in
+    record {
+      taken = p ∙ ap ending_of (sym coded-none);
+      begins = take-none en.kept bytes kept ∙ sym (ap (λ l. reverse (behind l)) none ∙ none-kept);
+    }

@@ -20,7 +20,7 @@ returns-then-shift-at-clause-on c =
     let exact : c.args.at.a * 2 ^ shift % 2 ^ 32 ≡ c.args.at.a * 2 ^ shift = mod-eq_of_lt (let h : c.args.at.a * 2 ^ shift < 2 ^ 32 = omega (arith, n.narrow) in h) in
     reading-eq _ _ _ _ _ _ s.current s.current s.rest.now s.rest.now (e.a ∙ exact) e.c e.ct refl refl
     ∙ sym (on-few shift c.args.at.a c.args.at.c c.args.at.ct s.current s.rest.now c.if-shift-at.true
-      (let h : c.args.at.c < 2 ^ 32 = omega arith in h))
+    (let h : c.args.at.c < 2 ^ 32 = omega arith in h))
     ∙ sym (renormalise-reading (reading_of c.args.at s) c.requires.positive c.requires.low)
 
 pub returns-clause-on : goal.returns-clause-on

@@ -38,58 +38,58 @@ returns-then-part-ge32768-clause-ok c =
 pub overflow_sub-shift : goal.overflow_sub-shift
 overflow_sub-shift c =
     let valid : Valid (registers_of c.part_of-part.result c.self.inside.bytes) =
-      code-valid c.self.inside.states c.args.context c.args.bit c.row_of-row.result (registers_of c.self.inside.at c.self.inside.bytes)
-      (registers_of c.part_of-part.result c.self.inside.bytes) c.self.invariant.ready c.row_of-row.ensures
-      (c.part_of-part.ensures c.self.inside.bytes) in
+    code-valid c.self.inside.states c.args.context c.args.bit c.row_of-row.result (registers_of c.self.inside.at c.self.inside.bytes)
+    (registers_of c.part_of-part.result c.self.inside.bytes) c.self.invariant.ready c.row_of-row.ensures
+    (c.part_of-part.ensures c.self.inside.bytes) in
     (count-of c.part_of-part.result.a valid.sound.positive c.if-part-ge32768.false).enough
 
 pub shifted-self-inside-requires-clause-shifts : goal.shifted-self-inside-requires-clause-shifts
 shifted-self-inside-requires-clause-shifts c =
     let valid : Valid (registers_of c.part_of-part.result c.self.inside.bytes) =
-      code-valid c.self.inside.states c.args.context c.args.bit c.row_of-row.result (registers_of c.self.inside.at c.self.inside.bytes)
-      (registers_of c.part_of-part.result c.self.inside.bytes) c.self.invariant.ready c.row_of-row.ensures
-      (c.part_of-part.ensures c.self.inside.bytes) in
+    code-valid c.self.inside.states c.args.context c.args.bit c.row_of-row.result (registers_of c.self.inside.at c.self.inside.bytes)
+    (registers_of c.part_of-part.result c.self.inside.bytes) c.self.invariant.ready c.row_of-row.ensures
+    (c.part_of-part.ensures c.self.inside.bytes) in
     valid.shifts
 
 pub invariant_of-self-then-shift-part : goal.invariant_of-self-then-shift-part
 invariant_of-self-then-shift-part c =
     let chosen : c.if-is_mps.next ≡ cond (beq c.args.bit c.row_of-row.result.mps) c.row_of-row.result.after_mps c.row_of-row.result.after_lps =
-      elim c.if-is_mps.branch [
-        then-is_mps w ↦ w.next-is ∙ sym (cond-true _ _ _ w.if-is_mps.true)
+    elim c.if-is_mps.branch [
+      | then-is_mps w ↦ w.next-is ∙ sym (cond-true _ _ _ w.if-is_mps.true)
       | else-is_mps w ↦ w.next-is ∙ sym (cond-false _ _ _ w.if-is_mps.false)
-      ] in
+    ] in
     let valid : Valid (registers_of c.part_of-part.result c.self.inside.bytes) =
-      code-valid c.self.inside.states c.args.context c.args.bit c.row_of-row.result (registers_of c.self.inside.at c.self.inside.bytes)
-      (registers_of c.part_of-part.result c.self.inside.bytes) c.self.invariant.ready c.row_of-row.ensures
-      (c.part_of-part.ensures c.self.inside.bytes) in
+    code-valid c.self.inside.states c.args.context c.args.bit c.row_of-row.result (registers_of c.self.inside.at c.self.inside.bytes)
+    (registers_of c.part_of-part.result c.self.inside.bytes) c.self.invariant.ready c.row_of-row.ensures
+    (c.part_of-part.ensures c.self.inside.bytes) in
     let moved : renormalised 15 (registers_of c.part_of-part.result c.self.inside.bytes) ≡ registers_of c.shifted-self-inside.result c.self.inside.bytes =
-      shifted-is c.part_of-part.result c.shifted-self-inside.result c.self.inside.bytes valid c.if-part-ge32768.false c.if-shift-part.true
-      c.shifted-self-inside.ensures.a c.shifted-self-inside.ensures.c c.shifted-self-inside.ensures.ct in
+    shifted-is c.part_of-part.result c.shifted-self-inside.result c.self.inside.bytes valid c.if-part-ge32768.false c.if-shift-part.true
+    c.shifted-self-inside.ensures.a c.shifted-self-inside.ensures.c c.shifted-self-inside.ensures.ct in
     record {
       ready = moved-ready c.self.inside.states c.args.context c.args.bit c.row_of-row.result
-        (registers_of c.self.inside.at c.self.inside.bytes) (registers_of c.part_of-part.result c.self.inside.bytes)
-        (registers_of c.shifted-self-inside.result c.self.inside.bytes) c.self.invariant.ready c.row_of-row.ensures
-        (c.part_of-part.ensures c.self.inside.bytes) moved;
+          (registers_of c.self.inside.at c.self.inside.bytes) (registers_of c.part_of-part.result c.self.inside.bytes)
+          (registers_of c.shifted-self-inside.result c.self.inside.bytes) c.self.invariant.ready c.row_of-row.ensures
+          (c.part_of-part.ensures c.self.inside.bytes) moved;
       states = states-set c.self.inside.states c.args.context c.if-is_mps.next
-        (next-below (beq c.args.bit c.row_of-row.result.mps) (get_or c.self.inside.states c.args.context 0) c.if-is_mps.next
+          (next-below (beq c.args.bit c.row_of-row.result.mps) (get_or c.self.inside.states c.args.context 0) c.if-is_mps.next
           c.row_of-row.result c.row_of-row.ensures chosen)
-        c.self.invariant.states;
+          c.self.invariant.states;
     }
 
 pub returns-then-shift-part-clause-ok : goal.returns-then-shift-part-clause-ok
 returns-then-shift-part-clause-ok c =
     let chosen : c.if-is_mps.next ≡ cond (beq c.args.bit c.row_of-row.result.mps) c.row_of-row.result.after_mps c.row_of-row.result.after_lps =
-      elim c.if-is_mps.branch [
-        then-is_mps w ↦ w.next-is ∙ sym (cond-true _ _ _ w.if-is_mps.true)
+    elim c.if-is_mps.branch [
+      | then-is_mps w ↦ w.next-is ∙ sym (cond-true _ _ _ w.if-is_mps.true)
       | else-is_mps w ↦ w.next-is ∙ sym (cond-false _ _ _ w.if-is_mps.false)
-      ] in
+    ] in
     let valid : Valid (registers_of c.part_of-part.result c.self.inside.bytes) =
-      code-valid c.self.inside.states c.args.context c.args.bit c.row_of-row.result (registers_of c.self.inside.at c.self.inside.bytes)
-      (registers_of c.part_of-part.result c.self.inside.bytes) c.self.invariant.ready c.row_of-row.ensures
-      (c.part_of-part.ensures c.self.inside.bytes) in
+    code-valid c.self.inside.states c.args.context c.args.bit c.row_of-row.result (registers_of c.self.inside.at c.self.inside.bytes)
+    (registers_of c.part_of-part.result c.self.inside.bytes) c.self.invariant.ready c.row_of-row.ensures
+    (c.part_of-part.ensures c.self.inside.bytes) in
     let moved : renormalised 15 (registers_of c.part_of-part.result c.self.inside.bytes) ≡ registers_of c.shifted-self-inside.result c.self.inside.bytes =
-      shifted-is c.part_of-part.result c.shifted-self-inside.result c.self.inside.bytes valid c.if-part-ge32768.false c.if-shift-part.true
-      c.shifted-self-inside.ensures.a c.shifted-self-inside.ensures.c c.shifted-self-inside.ensures.ct in
+    shifted-is c.part_of-part.result c.shifted-self-inside.result c.self.inside.bytes valid c.if-part-ge32768.false c.if-shift-part.true
+    c.shifted-self-inside.ensures.a c.shifted-self-inside.ensures.c c.shifted-self-inside.ensures.ct in
     moved-code c.self.inside.states c.args.context c.if-is_mps.next c.args.bit c.row_of-row.result
     (registers_of c.self.inside.at c.self.inside.bytes) (registers_of c.part_of-part.result c.self.inside.bytes)
     (registers_of c.shifted-self-inside.result c.self.inside.bytes) c.self.invariant.ready c.row_of-row.ensures
@@ -99,56 +99,56 @@ returns-then-shift-part-clause-ok c =
 pub doubled-requires-clause-valid : goal.doubled-requires-clause-valid
 doubled-requires-clause-valid c =
     let valid : Valid (registers_of c.part_of-part.result c.self.inside.bytes) =
-      code-valid c.self.inside.states c.args.context c.args.bit c.row_of-row.result (registers_of c.self.inside.at c.self.inside.bytes)
-      (registers_of c.part_of-part.result c.self.inside.bytes) c.self.invariant.ready c.row_of-row.ensures
-      (c.part_of-part.ensures c.self.inside.bytes) in
+    code-valid c.self.inside.states c.args.context c.args.bit c.row_of-row.result (registers_of c.self.inside.at c.self.inside.bytes)
+    (registers_of c.part_of-part.result c.self.inside.bytes) c.self.invariant.ready c.row_of-row.ensures
+    (c.part_of-part.ensures c.self.inside.bytes) in
     valid
 
 pub doubled-requires-clause-narrow : goal.doubled-requires-clause-narrow
 doubled-requires-clause-narrow c =
     let valid : Valid (registers_of c.part_of-part.result c.self.inside.bytes) =
-      code-valid c.self.inside.states c.args.context c.args.bit c.row_of-row.result (registers_of c.self.inside.at c.self.inside.bytes)
-      (registers_of c.part_of-part.result c.self.inside.bytes) c.self.invariant.ready c.row_of-row.ensures
-      (c.part_of-part.ensures c.self.inside.bytes) in
+    code-valid c.self.inside.states c.args.context c.args.bit c.row_of-row.result (registers_of c.self.inside.at c.self.inside.bytes)
+    (registers_of c.part_of-part.result c.self.inside.bytes) c.self.invariant.ready c.row_of-row.ensures
+    (c.part_of-part.ensures c.self.inside.bytes) in
     (count-of c.part_of-part.result.a valid.sound.positive c.if-part-ge32768.false).narrow
 
 pub invariant_of-self-2 : goal.invariant_of-self-2
 invariant_of-self-2 c =
     let chosen : c.if-is_mps.next ≡ cond (beq c.args.bit c.row_of-row.result.mps) c.row_of-row.result.after_mps c.row_of-row.result.after_lps =
-      elim c.if-is_mps.branch [
-        then-is_mps w ↦ w.next-is ∙ sym (cond-true _ _ _ w.if-is_mps.true)
+    elim c.if-is_mps.branch [
+      | then-is_mps w ↦ w.next-is ∙ sym (cond-true _ _ _ w.if-is_mps.true)
       | else-is_mps w ↦ w.next-is ∙ sym (cond-false _ _ _ w.if-is_mps.false)
-      ] in
+    ] in
     let valid : Valid (registers_of c.part_of-part.result c.self.inside.bytes) =
-      code-valid c.self.inside.states c.args.context c.args.bit c.row_of-row.result (registers_of c.self.inside.at c.self.inside.bytes)
-      (registers_of c.part_of-part.result c.self.inside.bytes) c.self.invariant.ready c.row_of-row.ensures
-      (c.part_of-part.ensures c.self.inside.bytes) in
+    code-valid c.self.inside.states c.args.context c.args.bit c.row_of-row.result (registers_of c.self.inside.at c.self.inside.bytes)
+    (registers_of c.part_of-part.result c.self.inside.bytes) c.self.invariant.ready c.row_of-row.ensures
+    (c.part_of-part.ensures c.self.inside.bytes) in
     let moved : renormalised 15 (registers_of c.part_of-part.result c.self.inside.bytes) ≡ registers_of c.in_ok-self-inside.field-0 c.doubled.new.bytes =
-      renormalise-is (registers_of c.part_of-part.result c.self.inside.bytes) valid c.if-part-ge32768.false ∙ c.in_ok-self-inside.ensures.ok in
+    renormalise-is (registers_of c.part_of-part.result c.self.inside.bytes) valid c.if-part-ge32768.false ∙ c.in_ok-self-inside.ensures.ok in
     record {
       ready = moved-ready c.self.inside.states c.args.context c.args.bit c.row_of-row.result
-        (registers_of c.self.inside.at c.self.inside.bytes) (registers_of c.part_of-part.result c.self.inside.bytes)
-        (registers_of c.in_ok-self-inside.field-0 c.doubled.new.bytes) c.self.invariant.ready c.row_of-row.ensures
-        (c.part_of-part.ensures c.self.inside.bytes) moved;
+          (registers_of c.self.inside.at c.self.inside.bytes) (registers_of c.part_of-part.result c.self.inside.bytes)
+          (registers_of c.in_ok-self-inside.field-0 c.doubled.new.bytes) c.self.invariant.ready c.row_of-row.ensures
+          (c.part_of-part.ensures c.self.inside.bytes) moved;
       states = states-set c.self.inside.states c.args.context c.if-is_mps.next
-        (next-below (beq c.args.bit c.row_of-row.result.mps) (get_or c.self.inside.states c.args.context 0) c.if-is_mps.next
+          (next-below (beq c.args.bit c.row_of-row.result.mps) (get_or c.self.inside.states c.args.context 0) c.if-is_mps.next
           c.row_of-row.result c.row_of-row.ensures chosen)
-        c.self.invariant.states;
+          c.self.invariant.states;
     }
 
 pub returns-clause-ok : goal.returns-clause-ok
 returns-clause-ok c =
     let chosen : c.if-is_mps.next ≡ cond (beq c.args.bit c.row_of-row.result.mps) c.row_of-row.result.after_mps c.row_of-row.result.after_lps =
-      elim c.if-is_mps.branch [
-        then-is_mps w ↦ w.next-is ∙ sym (cond-true _ _ _ w.if-is_mps.true)
+    elim c.if-is_mps.branch [
+      | then-is_mps w ↦ w.next-is ∙ sym (cond-true _ _ _ w.if-is_mps.true)
       | else-is_mps w ↦ w.next-is ∙ sym (cond-false _ _ _ w.if-is_mps.false)
-      ] in
+    ] in
     let valid : Valid (registers_of c.part_of-part.result c.self.inside.bytes) =
-      code-valid c.self.inside.states c.args.context c.args.bit c.row_of-row.result (registers_of c.self.inside.at c.self.inside.bytes)
-      (registers_of c.part_of-part.result c.self.inside.bytes) c.self.invariant.ready c.row_of-row.ensures
-      (c.part_of-part.ensures c.self.inside.bytes) in
+    code-valid c.self.inside.states c.args.context c.args.bit c.row_of-row.result (registers_of c.self.inside.at c.self.inside.bytes)
+    (registers_of c.part_of-part.result c.self.inside.bytes) c.self.invariant.ready c.row_of-row.ensures
+    (c.part_of-part.ensures c.self.inside.bytes) in
     let moved : renormalised 15 (registers_of c.part_of-part.result c.self.inside.bytes) ≡ registers_of c.in_ok-self-inside.field-0 c.doubled.new.bytes =
-      renormalise-is (registers_of c.part_of-part.result c.self.inside.bytes) valid c.if-part-ge32768.false ∙ c.in_ok-self-inside.ensures.ok in
+    renormalise-is (registers_of c.part_of-part.result c.self.inside.bytes) valid c.if-part-ge32768.false ∙ c.in_ok-self-inside.ensures.ok in
     moved-code c.self.inside.states c.args.context c.if-is_mps.next c.args.bit c.row_of-row.result
     (registers_of c.self.inside.at c.self.inside.bytes) (registers_of c.part_of-part.result c.self.inside.bytes)
     (registers_of c.in_ok-self-inside.field-0 c.doubled.new.bytes) c.self.invariant.ready c.row_of-row.ensures

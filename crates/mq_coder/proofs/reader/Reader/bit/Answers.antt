@@ -30,17 +30,17 @@ pub invariant_of-self-2 : goal.invariant_of-self-2
 invariant_of-self-2 c =
     let m = beq (nat_lt (c.self.inside.at.a - c.row_of-row.result.qe) c.row_of-row.result.qe) (nat_lt (c.self.inside.at.c / 2 ^ 16) c.row_of-row.result.qe) in
     let chosen : c.if-is_mps.self ≡ cond m c.row_of-row.result.after_mps c.row_of-row.result.after_lps =
-      elim c.if-is_mps.branch [
-        then-is_mps w ↦ w.self-is ∙ sym (cond-true _ _ _ w.if-is_mps.true)
+    elim c.if-is_mps.branch [
+      | then-is_mps w ↦ w.self-is ∙ sym (cond-true _ _ _ w.if-is_mps.true)
       | else-is_mps w ↦ w.self-is ∙ sym (cond-false _ _ _ w.if-is_mps.false)
-      ] in
+    ] in
     record {
       wide = c.renormalise-self-inside.ensures.wide;
       narrow = c.renormalise-self-inside.ensures.narrow;
       shifts = c.renormalise-self-inside.ensures.shifts;
       states = states-set c.self.inside.states c.args.context c.if-is_mps.self
-        (next-below m (get_or c.self.inside.states c.args.context 0) c.if-is_mps.self c.row_of-row.result c.row_of-row.ensures chosen)
-        c.self.invariant.states;
+          (next-below m (get_or c.self.inside.states c.args.context 0) c.if-is_mps.self c.row_of-row.result c.row_of-row.ensures chosen)
+          c.self.invariant.states;
     }
 
 pub returns-then-part-ge32768-clause-bit : goal.returns-then-part-ge32768-clause-bit
