@@ -56,7 +56,12 @@ impl Coder {
         let is_mps = bit == row.mps;
         let part = part_of(self.at, row.qe, is_mps);
         if 0x8000 <= part.a {
-            self.at = part;
+            // By its fields: a struct that is copied whole goes through memory here.
+            self.at = Interval {
+                a: part.a,
+                c: part.c,
+                ct: part.ct,
+            };
             return Ok(());
         }
         let next = if is_mps { row.after_mps } else { row.after_lps };
@@ -66,7 +71,12 @@ impl Coder {
             self.states[context as usize] = next;
             return Ok(());
         }
-        self.at = doubled(&mut self.bytes, part, shift)?;
+        let whole = Interval {
+            a: part.a,
+            c: part.c,
+            ct: part.ct,
+        };
+        self.at = doubled(&mut self.bytes, whole, shift)?;
         self.states[context as usize] = next;
         Ok(())
     }
