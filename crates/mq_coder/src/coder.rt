@@ -76,7 +76,12 @@ impl Coder {
             c: part.c,
             ct: part.ct,
         };
-        self.at = doubled(&mut self.bytes, whole, shift)?;
+        let done = doubled(&mut self.bytes, whole, shift)?;
+        self.at = Interval {
+            a: done.a,
+            c: done.c,
+            ct: done.ct,
+        };
         self.states[context as usize] = next;
         Ok(())
     }

@@ -141,7 +141,11 @@ pub(crate) fn doubled(bytes: &mut Bytes, at: Interval, shift: u32) -> Result<Int
         c: next.c,
         ct: next.ct,
     };
-    match doubled(bytes, rest, shift - at.ct) {
+    let left = shift - at.ct;
+    if left < rest.ct {
+        return Ok(shifted(rest, left));
+    }
+    match doubled(bytes, rest, left) {
         Ok(done) => Ok(done),
         Err(NoMemory) => {
             take_back(bytes, last);

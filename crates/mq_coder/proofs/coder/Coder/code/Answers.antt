@@ -123,12 +123,12 @@ invariant_of-self-2 c =
     code-valid c.self.inside.states c.args.context c.args.bit c.row_of-row.result (registers_of c.self.inside.at c.self.inside.bytes)
     (registers_of c.part_of-part.result c.self.inside.bytes) c.self.invariant.ready c.row_of-row.ensures
     (c.part_of-part.ensures c.self.inside.bytes) in
-    let moved : renormalised 15 (registers_of c.part_of-part.result c.self.inside.bytes) ≡ registers_of c.in_ok-self-inside.field-0 c.doubled.new.bytes =
-    renormalise-is (registers_of c.part_of-part.result c.self.inside.bytes) valid c.if-part-ge32768.false ∙ c.in_ok-self-inside.ensures.ok in
+    let moved : renormalised 15 (registers_of c.part_of-part.result c.self.inside.bytes) ≡ registers_of c.in_ok-done.done c.doubled.new.bytes =
+    renormalise-is (registers_of c.part_of-part.result c.self.inside.bytes) valid c.if-part-ge32768.false ∙ c.in_ok-done.ensures.ok in
     record {
       ready = moved-ready c.self.inside.states c.args.context c.args.bit c.row_of-row.result
           (registers_of c.self.inside.at c.self.inside.bytes) (registers_of c.part_of-part.result c.self.inside.bytes)
-          (registers_of c.in_ok-self-inside.field-0 c.doubled.new.bytes) c.self.invariant.ready c.row_of-row.ensures
+          (registers_of c.in_ok-done.done c.doubled.new.bytes) c.self.invariant.ready c.row_of-row.ensures
           (c.part_of-part.ensures c.self.inside.bytes) moved;
       states = states-set c.self.inside.states c.args.context c.if-is_mps.next
           (next-below (beq c.args.bit c.row_of-row.result.mps) (get_or c.self.inside.states c.args.context 0) c.if-is_mps.next
@@ -147,10 +147,10 @@ returns-clause-ok c =
     code-valid c.self.inside.states c.args.context c.args.bit c.row_of-row.result (registers_of c.self.inside.at c.self.inside.bytes)
     (registers_of c.part_of-part.result c.self.inside.bytes) c.self.invariant.ready c.row_of-row.ensures
     (c.part_of-part.ensures c.self.inside.bytes) in
-    let moved : renormalised 15 (registers_of c.part_of-part.result c.self.inside.bytes) ≡ registers_of c.in_ok-self-inside.field-0 c.doubled.new.bytes =
-    renormalise-is (registers_of c.part_of-part.result c.self.inside.bytes) valid c.if-part-ge32768.false ∙ c.in_ok-self-inside.ensures.ok in
+    let moved : renormalised 15 (registers_of c.part_of-part.result c.self.inside.bytes) ≡ registers_of c.in_ok-done.done c.doubled.new.bytes =
+    renormalise-is (registers_of c.part_of-part.result c.self.inside.bytes) valid c.if-part-ge32768.false ∙ c.in_ok-done.ensures.ok in
     moved-code c.self.inside.states c.args.context c.if-is_mps.next c.args.bit c.row_of-row.result
     (registers_of c.self.inside.at c.self.inside.bytes) (registers_of c.part_of-part.result c.self.inside.bytes)
-    (registers_of c.in_ok-self-inside.field-0 c.doubled.new.bytes) c.self.invariant.ready c.row_of-row.ensures
+    (registers_of c.in_ok-done.done c.doubled.new.bytes) c.self.invariant.ready c.row_of-row.ensures
     (c.part_of-part.ensures c.self.inside.bytes) c.if-part-ge32768.false moved chosen
     ∙ ap (λ e. coded_one e (record { context = c.args.context; bit = c.args.bit })) c.self.view_is
