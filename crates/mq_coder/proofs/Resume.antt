@@ -1,19 +1,22 @@
 -- An ending, and the codeword that is made from it.
-use Rattle.std.proofs.Common.{◌≡◌, ℕ, ◌+◌, ◌-◌, ◌*◌, ◌/◌, ◌%◌, ◌^◌, ◌<◌, ◌≤◌, ◌≢◌, List, [], ◌∷◌, ◌++◌, reverse, length, take, refl, sym, ap, ◌∙◌, arith, length-take}
+use Rattle.std.proofs.Common.{subst, ◌≡◌, ℕ, ◌+◌, ◌-◌, ◌*◌, ◌/◌, ◌%◌, ◌^◌, ◌<◌, ◌≤◌, ◌≢◌, List, [], ◌∷◌, ◌++◌, reverse, length, take, refl, sym, ap, ◌∙◌, arith, length-take, append_assoc, inl, inr, zero, suc}
 use Rattle.std.specs.Prelude.{bit_and}
-use Rattle.std.proofs.lemmas.List.{reverse-reverse, length-reverse}
+use Rattle.std.proofs.lemmas.List.{reverse-reverse, length-reverse, reverse-append}
 use Rattle.std.proofs.lemmas.Nat.{and_mask}
-use Rattle.mast_world.specs.Mq.{Registers, Decision, last_byte, behind, coded, coded_from, start, codeword, without_last_ff}
+use Rattle.mast_world.specs.Mq.{Registers, Decision, last_byte, behind, coded, coded_from, start, codeword, without_last_ff, with_carry, doubled, renormalised, lower_part, upper_part, coded_one, state_at, is_mps, qe_of, Encoder}
 use Rattle.mq_coder.specs.Endings.{Continues, ending_of}
 use Rattle.mq_coder.specs.Marks.{mark_of}
-use Rattle.mq_coder.specs.Ready.{Clean, Ready}
+use Rattle.mq_coder.specs.Ready.{Clean, Ready, Sound, Valid}
 use Rattle.mq_coder.specs.Bytes.{with_last, registers_of}
 use Rattle.mq_coder.specs.Tails.{IsTail}
 use Rattle.mq_coder.specs.declared.interval.Interval.{Interval}
 use Rattle.mq_coder.specs.declared.tail.Tail.{Tail}
 use Rattle.mq_coder.proofs.Endings.{flushed-is}
 use Rattle.mq_coder.specs.declared.ending.Ending.{Ending}
-use Rattle.mq_coder.proofs.Decisions.{ready-coded_from}
+use Rattle.mq_coder.proofs.Decisions.{ready-coded_from, renorm-zero, renorm-cases, part-cases, valid-part, coded-registers, ready-coded_one, coded_from-cons, coded_from-nil}
+use Rattle.mq_coder.specs.Parts.{part_kept}
+use Rattle.mq_coder.proofs.Sound.{Out}
+use Rattle.mq_coder.proofs.Steps.{regs, ct-form, doubled-quiet, doubled-out, valid-doubled}
 use Rattle.mq_coder.proofs.Outputs.{reverse-push}
 use Rattle.mq_coder.proofs.ReadBack.{ready-start}
 
@@ -162,4 +165,113 @@ continues-start bytes en p =
     record {
       taken = p ∙ ap ending_of (sym coded-none);
       begins = take-none en.kept bytes kept ∙ sym (ap (λ l. reverse (behind l)) none ∙ none-kept);
+    }
+
+-- ---- bytes that came out stay
+
+-- the bytes in front of the last one are in front of it later too
+pub record Begins (before after : List ℕ) : Type 0 where
+  pub more : List ℕ
+  pub same : after ≡ more ++ before
+
+begins-self : (xs : List ℕ) → Begins xs xs
+begins-self xs = record { more = []; same = refl }
+
+begins-trans : (a b c : List ℕ) → Begins a b → Begins b c → Begins a c
+begins-trans a b c p q =
+    record { more = q.more ++ p.more; same = q.same ∙ ap (λ l. q.more ++ l) p.same ∙ sym (append_assoc q.more p.more a) }
+
+behind-carry : (bs : List ℕ) → behind (with_carry bs) ≡ behind bs
+unfolding behind with_carry
+behind-carry [] = refl
+behind-carry (b ∷ bs) = refl
+
+behind-more : (bs : List ℕ) → Begins (behind bs) bs
+unfolding behind
+behind-more [] = begins-self []
+behind-more (b ∷ bs) = record { more = b ∷ []; same = refl }
+
+out-begins : (before : List ℕ) (a c w : ℕ) (r : Registers) → Out before a c w r → Begins (behind before) (behind r.bytes)
+unfolding behind
+out-begins before a c w r o =
+    let tail : behind r.bytes ≡ o.bs = ap behind o.shape in
+    let front : behind o.bs ≡ behind before = elim o.carried [
+        inl p ↦ ap behind p
+      | inr p ↦ ap behind p ∙ behind-carry before
+      ] in
+    subst (Begins (behind before)) (sym tail) (subst (λ l. Begins l o.bs) front (behind-more o.bs))
+
+doubled-begins' :
+    (a c n : ℕ) (bytes : List ℕ) → Sound a bytes c (suc n) → a < 0x8000 →
+    Begins (behind bytes) (behind (doubled (regs a c (suc n) bytes)).bytes)
+doubled-begins' a c zero bytes s low =
+    out-begins bytes (2 * a) (2 * c) (2 * a) (doubled (regs a c 1 bytes)) (doubled-out a c bytes s low)
+doubled-begins' a c (suc n) bytes s low =
+    subst (λ r. Begins (behind bytes) (behind r.bytes)) (sym (doubled-quiet a c n bytes)) (begins-self (behind bytes))
+
+doubled-begins : (r : Registers) → Valid r → r.a < 0x8000 → Begins (behind r.bytes) (behind (doubled r).bytes)
+doubled-begins r v low =
+    let e : r.ct ≡ suc (r.ct - 1) = omega (arith, v.before_byte) in
+    subst (λ x. Begins (behind x.bytes) (behind (doubled x).bytes)) (sym (ct-form r v.before_byte))
+    (doubled-begins' r.a r.c (r.ct - 1) r.bytes (subst (λ n. Sound r.a r.bytes r.c n) e v.sound) low)
+
+renorm-begins : (n : ℕ) (r : Registers) → Valid r → Begins (behind r.bytes) (behind (renormalised n r).bytes)
+renorm-begins zero r v = subst (λ x. Begins (behind r.bytes) (behind x.bytes)) (sym (renorm-zero r)) (begins-self (behind r.bytes))
+renorm-begins (suc n) r v =
+    renorm-cases n r (λ x. Begins (behind r.bytes) (behind x.bytes))
+    (λ low. begins-trans (behind r.bytes) (behind (doubled r).bytes) (behind (renormalised n (doubled r)).bytes)
+      (doubled-begins r v low) (renorm-begins n (doubled r) (valid-doubled r v low)))
+    (λ _. begins-self (behind r.bytes))
+
+lower-bytes : (qe : ℕ) (r : Registers) → (lower_part qe r).bytes ≡ r.bytes
+unfolding lower_part
+lower-bytes qe r = refl
+
+upper-bytes : (qe : ℕ) (r : Registers) → (upper_part qe r).bytes ≡ r.bytes
+unfolding upper_part
+upper-bytes qe r = refl
+
+one-begins : (e : Encoder) (d : Decision) → Ready e.registers → Begins (behind e.registers.bytes) (behind (coded_one e d).registers.bytes)
+one-begins e d ready =
+    let s = state_at e.states d.context in
+    let m = is_mps d.bit s in
+    let p = part_kept m (qe_of s) e.registers in
+    let same : p.bytes ≡ e.registers.bytes =
+      part-cases m (qe_of s) e.registers (λ x. x.bytes ≡ e.registers.bytes) (λ _. lower-bytes (qe_of s) e.registers) (λ _. upper-bytes (qe_of s) e.registers) in
+    subst (λ x. Begins (behind e.registers.bytes) (behind x.bytes)) (sym (coded-registers e d ready.high))
+    (subst (λ l. Begins (behind l) (behind (renormalised 15 p).bytes)) same (renorm-begins 15 p (valid-part m s e.registers ready)))
+
+pub coded-begins : (e : Encoder) (ds : List Decision) → Ready e.registers → Begins (behind e.registers.bytes) (behind (coded_from e ds).registers.bytes)
+coded-begins e [] ready = subst (λ x. Begins (behind e.registers.bytes) (behind x.registers.bytes)) (sym (coded_from-nil e)) (begins-self (behind e.registers.bytes))
+coded-begins e (d ∷ ds) ready =
+    subst (λ x. Begins (behind e.registers.bytes) (behind x.registers.bytes)) (sym (coded_from-cons e d ds))
+    (begins-trans (behind e.registers.bytes) (behind (coded_one e d).registers.bytes) (behind (coded_from (coded_one e d) ds).registers.bytes)
+      (one-begins e d ready) (coded-begins (coded_one e d) ds (ready-coded_one e d ready)))
+
+take-front : (xs ys : List ℕ) → take (length xs) (xs ++ ys) ≡ xs
+take-front [] ys = refl
+take-front (x ∷ xs) ys = ap (λ l. x ∷ l) (take-front xs ys)
+
+kept-front : (before after : List ℕ) → Begins (behind before) after → take (length (behind before)) (reverse after) ≡ reverse (behind before)
+kept-front before after p =
+    let turned : reverse after ≡ reverse (behind before) ++ reverse p.more = ap reverse p.same ∙ reverse-append p.more (behind before) in
+    ap (λ n. take n (reverse after)) (sym (length-reverse (behind before)))
+    ∙ ap (take (length (reverse (behind before)))) turned ∙ take-front (reverse (behind before)) (reverse p.more)
+
+whole-begins : (before after : List ℕ) → Begins (behind before) (behind after) → Begins (behind before) after
+whole-begins before after p = begins-trans (behind before) (behind after) after p (behind-more after)
+
+-- an ending goes on over the bytes of the same coder after any further decisions
+pub continues-later :
+    (ds later : List Decision) (en : Ending) → en ≡ ending_of (coded ds) →
+    Continues ds (reverse (coded_from (coded ds) later).registers.bytes) en
+continues-later ds later en p =
+    let kept : en.kept ≡ length (behind (coded ds).registers.bytes) = ap (λ e. e.kept) p in
+    record {
+      taken = p;
+      begins =
+        ap (λ n. take n (reverse (coded_from (coded ds) later).registers.bytes)) kept
+        ∙ kept-front (coded ds).registers.bytes (coded_from (coded ds) later).registers.bytes
+          (whole-begins (coded ds).registers.bytes (coded_from (coded ds) later).registers.bytes
+            (coded-begins (coded ds) later (ready-coded ds)));
     }
