@@ -196,9 +196,9 @@ unfolding behind
 out-begins before a c w r o =
     let tail : behind r.bytes ≡ o.bs = ap behind o.shape in
     let front : behind o.bs ≡ behind before = elim o.carried [
-        inl p ↦ ap behind p
+      | inl p ↦ ap behind p
       | inr p ↦ ap behind p ∙ behind-carry before
-      ] in
+    ] in
     subst (Begins (behind before)) (sym tail) (subst (λ l. Begins l o.bs) front (behind-more o.bs))
 
 doubled-begins' :
@@ -220,7 +220,7 @@ renorm-begins zero r v = subst (λ x. Begins (behind r.bytes) (behind x.bytes)) 
 renorm-begins (suc n) r v =
     renorm-cases n r (λ x. Begins (behind r.bytes) (behind x.bytes))
     (λ low. begins-trans (behind r.bytes) (behind (doubled r).bytes) (behind (renormalised n (doubled r)).bytes)
-      (doubled-begins r v low) (renorm-begins n (doubled r) (valid-doubled r v low)))
+    (doubled-begins r v low) (renorm-begins n (doubled r) (valid-doubled r v low)))
     (λ _. begins-self (behind r.bytes))
 
 lower-bytes : (qe : ℕ) (r : Registers) → (lower_part qe r).bytes ≡ r.bytes
@@ -237,7 +237,7 @@ one-begins e d ready =
     let m = is_mps d.bit s in
     let p = part_kept m (qe_of s) e.registers in
     let same : p.bytes ≡ e.registers.bytes =
-      part-cases m (qe_of s) e.registers (λ x. x.bytes ≡ e.registers.bytes) (λ _. lower-bytes (qe_of s) e.registers) (λ _. upper-bytes (qe_of s) e.registers) in
+    part-cases m (qe_of s) e.registers (λ x. x.bytes ≡ e.registers.bytes) (λ _. lower-bytes (qe_of s) e.registers) (λ _. upper-bytes (qe_of s) e.registers) in
     subst (λ x. Begins (behind e.registers.bytes) (behind x.bytes)) (sym (coded-registers e d ready.high))
     (subst (λ l. Begins (behind l) (behind (renormalised 15 p).bytes)) same (renorm-begins 15 p (valid-part m s e.registers ready)))
 
@@ -246,7 +246,7 @@ coded-begins e [] ready = subst (λ x. Begins (behind e.registers.bytes) (behind
 coded-begins e (d ∷ ds) ready =
     subst (λ x. Begins (behind e.registers.bytes) (behind x.registers.bytes)) (sym (coded_from-cons e d ds))
     (begins-trans (behind e.registers.bytes) (behind (coded_one e d).registers.bytes) (behind (coded_from (coded_one e d) ds).registers.bytes)
-      (one-begins e d ready) (coded-begins (coded_one e d) ds (ready-coded_one e d ready)))
+    (one-begins e d ready) (coded-begins (coded_one e d) ds (ready-coded_one e d ready)))
 
 take-front : (xs ys : List ℕ) → take (length xs) (xs ++ ys) ≡ xs
 take-front [] ys = refl
@@ -270,8 +270,8 @@ continues-later ds later en p =
     record {
       taken = p;
       begins =
-        ap (λ n. take n (reverse (coded_from (coded ds) later).registers.bytes)) kept
-        ∙ kept-front (coded ds).registers.bytes (coded_from (coded ds) later).registers.bytes
+          ap (λ n. take n (reverse (coded_from (coded ds) later).registers.bytes)) kept
+          ∙ kept-front (coded ds).registers.bytes (coded_from (coded ds) later).registers.bytes
           (whole-begins (coded ds).registers.bytes (coded_from (coded ds) later).registers.bytes
-            (coded-begins (coded ds) later (ready-coded ds)));
+          (coded-begins (coded ds) later (ready-coded ds)));
     }

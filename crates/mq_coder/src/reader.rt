@@ -55,10 +55,20 @@ impl<'a> Reader<'a> {
         let is_mps = (self.at.a - row.qe < row.qe) == (self.at.c >> 16 < row.qe);
         let part = part_of(self.at, row.qe);
         if 0x8000 <= part.a {
-            self.at = part;
+            // By its fields: a struct that is copied whole goes through memory here.
+            self.at = Interval {
+                a: part.a,
+                c: part.c,
+                ct: part.ct,
+            };
             return row.mps;
         }
-        self.at = renormalise(&mut self.source, part);
+        let done = renormalise(&mut self.source, part);
+        self.at = Interval {
+            a: done.a,
+            c: done.c,
+            ct: done.ct,
+        };
         self.states[context as usize] = if is_mps { row.after_mps } else { row.after_lps };
         is_mps == row.mps
     }

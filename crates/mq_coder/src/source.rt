@@ -94,7 +94,12 @@ pub(crate) fn renormalise(source: &mut Source<'_>, at: Interval) -> Interval
     if shift <= at.ct {
         return shifted(at, shift);
     }
-    read_on(source, at, shift)
+    let whole = Interval {
+        a: at.a,
+        c: at.c,
+        ct: at.ct,
+    };
+    read_on(source, whole, shift)
 }
 
 /// The part of the interval in which the register lies (DECODE, C.3.2).

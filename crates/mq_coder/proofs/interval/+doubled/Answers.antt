@@ -18,15 +18,15 @@ returns-then-left-rest-clause-ok t c =
     let ct = c.args.at.ct in
     let left = c.args.shift - ct in
     let last : c.last_of-last.result ≡ last_byte (reverse c.args.bytes.now) =
-      c.last_of-last.ensures ∙ ap (λ l. last_byte (reverse l)) c.as_slice.ensures in
+    c.last_of-last.ensures ∙ ap (λ l. last_byte (reverse l)) c.as_slice.ensures in
     let o : Over a code ct c.args.shift (reverse c.args.bytes.now) =
-      over a code ct c.args.shift (reverse c.args.bytes.now) c.requires.valid c.requires.narrow c.if-shift-at.false in
+    over a code ct c.args.shift (reverse c.args.bytes.now) c.requires.valid c.requires.narrow c.if-shift-at.false in
     let rest = rest-is c.last_of-last.result a code ct c.args.shift c.next_byte-next.result c.args.bytes.now c.put.new.bytes o last
-      c.next_byte-next.ensures.out c.in_ok-put.ensures.ok in
+    c.next_byte-next.ensures.out c.in_ok-put.ensures.ok in
     let e = c.shifted-then-left-rest.ensures in
     o.rest ∙ ap (doublings left) rest
     ∙ quiet (a * 2 ^ ct % 2 ^ 32) c.next_byte-next.result.c c.next_byte-next.result.ct left (reverse c.put.new.bytes)
-      (subst Valid rest o.valid) (subst (λ x. x * 2 ^ left < 2 ^ 16) (sym o.width) o.narrow) c.if-left-rest.true
+    (subst Valid rest o.valid) (subst (λ x. x * 2 ^ left < 2 ^ 16) (sym o.width) o.narrow) c.if-left-rest.true
     ∙ sym (regs-eq _ _ _ _ _ _ (reverse c.put.new.bytes) e.a e.c e.ct)
 
 pub doubled-requires : goal.doubled-requires

@@ -1,4 +1,4 @@
-use Rattle.std.proofs.Common.{◌≡◌, ℕ, ◌-◌, ◌*◌, ◌^◌, ◌%◌, ◌<◌, ap, arith, mod-eq_of_lt}
+use Rattle.std.proofs.Common.{◌≡◌, ◌-◌, ◌*◌, ◌^◌, ◌%◌, ◌<◌, ap, arith, mod-eq_of_lt}
 use Rattle.mq_coder.specs.Sources.{reading_of}
 use Rattle.mq_coder.proofs.Bits.{part-lower, part-upper}
 use Rattle.mq_coder.proofs.source.part_of.Goals as goal

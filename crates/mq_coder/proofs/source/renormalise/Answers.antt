@@ -1,4 +1,4 @@
-use Rattle.std.proofs.Common.{◌≡◌, ℕ, ◌-◌, ◌*◌, ◌^◌, ◌%◌, ◌<◌, ◌≤◌, refl, ap, subst, sym, ◌∙◌, arith, mod-eq_of_lt}
+use Rattle.std.proofs.Common.{◌≡◌, ◌-◌, ◌*◌, ◌^◌, ◌%◌, ◌<◌, ◌≤◌, refl, ap, subst, sym, ◌∙◌, arith, mod-eq_of_lt}
 use lib.Count.{count_leading_zeros}
 use Rattle.mq_coder.specs.Sources.{reading_of}
 use Rattle.mq_coder.proofs.Coding.{count-of}

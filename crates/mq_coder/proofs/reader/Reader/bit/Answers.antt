@@ -35,9 +35,9 @@ invariant_of-self-2 c =
       | else-is_mps w ↦ w.self-is ∙ sym (cond-false _ _ _ w.if-is_mps.false)
     ] in
     record {
-      wide = c.renormalise-self-inside.ensures.wide;
-      narrow = c.renormalise-self-inside.ensures.narrow;
-      shifts = c.renormalise-self-inside.ensures.shifts;
+      wide = c.renormalise-done.ensures.wide;
+      narrow = c.renormalise-done.ensures.narrow;
+      shifts = c.renormalise-done.ensures.shifts;
       states = states-set c.self.inside.states c.args.context c.if-is_mps.self
           (next-below m (get_or c.self.inside.states c.args.context 0) c.if-is_mps.self c.row_of-row.result c.row_of-row.ensures chosen)
           c.self.invariant.states;
@@ -55,8 +55,8 @@ returns-then-part-ge32768-clause-after c =
     c.row_of-row.ensures (c.part_of-part.ensures.part c.self.inside.source) c.if-part-ge32768.true
     ∙ ap (λ d. decoder_after d c.args.context) c.self.view_is
 
-pub renormalise-self-inside-requires-clause-positive : goal.renormalise-self-inside-requires-clause-positive
-renormalise-self-inside-requires-clause-positive c =
+pub renormalise-done-requires-clause-positive : goal.renormalise-done-requires-clause-positive
+renormalise-done-requires-clause-positive c =
     part-low c.self.inside.states c.args.context c.row_of-row.result (reading_of c.self.inside.at c.self.inside.source) (reading_of c.part_of-part.result c.self.inside.source)
     c.row_of-row.ensures (c.part_of-part.ensures.part c.self.inside.source) c.self.invariant.wide
 
@@ -74,6 +74,6 @@ returns-clause-after c =
       | else-is_mps w ↦ w.self-is ∙ sym (cond-false _ _ _ w.if-is_mps.false)
     ] in
     after-moved c.self.inside.states c.args.context c.if-is_mps.self c.row_of-row.result (reading_of c.self.inside.at c.self.inside.source)
-    (reading_of c.part_of-part.result c.self.inside.source) (reading_of c.renormalise-self-inside.result c.renormalise-self-inside.new.source) c.row_of-row.ensures (c.part_of-part.ensures.part c.self.inside.source)
-    c.if-part-ge32768.false c.renormalise-self-inside.ensures.on chosen
+    (reading_of c.part_of-part.result c.self.inside.source) (reading_of c.renormalise-done.result c.renormalise-done.new.source) c.row_of-row.ensures (c.part_of-part.ensures.part c.self.inside.source)
+    c.if-part-ge32768.false c.renormalise-done.ensures.on chosen
     ∙ ap (λ d. decoder_after d c.args.context) c.self.view_is

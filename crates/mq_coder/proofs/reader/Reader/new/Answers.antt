@@ -1,4 +1,4 @@
-use Rattle.std.proofs.Common.{◌≡◌, ℕ, ◌*◌, ◌^◌, ◌%◌, ◌<◌, ap, ◌∙◌, arith, mod-eq_of_lt}
+use Rattle.std.proofs.Common.{◌≡◌, ◌*◌, ◌^◌, ◌%◌, ◌<◌, ap, ◌∙◌, arith, mod-eq_of_lt}
 use Rattle.mq_coder.specs.Sources.{reading_at}
 use Rattle.mq_coder.proofs.Bits.{begins}
 use Rattle.mq_coder.proofs.reader.Reader.new.Goals as goal
