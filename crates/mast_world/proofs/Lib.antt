@@ -1,3 +1,4 @@
+mod MqValues
 pub mod BandLaws
 pub mod BlockLaws
 pub mod CoefficientLaws

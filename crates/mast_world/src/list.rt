@@ -1,4 +1,4 @@
-ghost use Rattle.std.specs.Prelude.{◌≡◌, ◌++◌, [], ◌∷◌, length, IfOk, OnOk, OnErr};
+ghost use Rattle.std.specs.Prelude.{◌≡◌, ◌++◌, [], ◌∷◌, length, IfOk, OnOk, OnErr, IfNone, IfSome, ◌<◌, slice_set};
 
 use std::alloc::{AllocError, AllocFailed, Global};
 use std::marker::Model;
@@ -54,6 +54,25 @@ impl<T> List<T> {
         ensures err { OnErr result (self.new ≡ self.old) }
     {
         self.items.push(item)
+    }
+
+    /// Takes the last item off.
+    pub fn pop(&mut self) -> Option<T>
+        ensures none { IfNone result (self.old ≡ self.new) }
+        ensures empty { IfNone result (self.old ≡ []) }
+        ensures some { IfSome result (λ item. self.old ≡ self.new ++ item ∷ []) }
+    {
+        self.items.pop()
+    }
+}
+
+impl<T: Drop> List<T> {
+    /// Puts an item in the place of another.
+    pub fn set(&mut self, at: usize, item: T)
+        requires { at < length self.old }
+        ensures { self.new ≡ slice_set self.old at item }
+    {
+        self.items[at] = item;
     }
 }
 

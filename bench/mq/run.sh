@@ -1,0 +1,24 @@
+#!/bin/sh
+# Compares the arithmetic coder with the same algorithm in C: bench/mq/run.sh [ROUNDS]
+# It builds a static library with C wrappers in a temporary copy of the crates.
+set -eu
+top=$(cd "$(dirname "$0")/../.." && pwd)
+kit=$(dirname "$(dirname "$(readlink -f "$(command -v rt)")")")
+work=$(mktemp -d)
+trap 'rm -rf "$work"' EXIT
+mkdir "$work/crates"
+for crate in mast_world mq_coder; do
+    cp -r "$top/crates/$crate" "$work/crates/$crate"
+done
+mkdir -p "$work/crates/mq_bench/src" "$work/crates/mq_bench/specs"
+: > "$work/crates/mq_bench/specs/Lib.antt"
+cp "$top/bench/mq/wrappers.txt" "$work/crates/mq_bench/src/lib.rt"
+cat > "$work/crates.txt" <<LIST
+mast_world:
+mq_coder: mast_world
+mq_bench staticlib: mq_coder mast_world
+LIST
+(cd "$work/crates/mq_bench" && rt lib)
+gcc -O2 -o "$work/main" "$top/bench/mq/main.c" "$work/crates/mq_bench/out/libmq_bench.a" \
+    "${KIT:-$kit}/c/liblibc_c.a" "${KIT:-$kit}/c/libos_c.a"
+"$work/main" "${1:-5}"

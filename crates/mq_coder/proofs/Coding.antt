@@ -1,0 +1,316 @@
+-- One decision, as the coder does it: a part, and the doublings that it needs.
+use Rattle.std.proofs.Common.{◌≡◌, ℕ, zero, suc, ◌+◌, ◌-◌, ◌*◌, ◌^◌, ◌<◌, ◌≤◌, Bool, true, false, not, cond, ◌&&◌, List, [], ◌∷◌, map, set, get_or, refl, sym, ap, ap₂, subst, ◌∙◌, inl, inr, arith, pow-suc, pow-add, pow_pos, pow_mono, mul-le-mul_right, mul-lt-mul_of_pos_right, reverse, ◌%◌}
+use Rattle.std.specs.Prelude.{nat_lt, nat_le}
+use Rattle.std.specs.Bool.{beq}
+use lib.Count.{count_leading_zeros}
+use Rattle.std.proofs.lemmas.Bool.{cases_lt, cond-true, cond-false, ltb-true, le-ltb, le-leb, lt-leb, and_parts}
+use Rattle.std.proofs.lemmas.Nat.{leading_top}
+use Rattle.mast_world.specs.Mq.{Registers, State, Encoder, qe_of, after_mps, after_lps, state_at, is_mps, lower_part, upper_part, renormalised, coded_one, start, start_states}
+use Rattle.mq_coder.specs.Bytes.{doublings, registers_of}
+use Rattle.mq_coder.specs.Parts.{lower_kept, part_kept}
+use Rattle.mq_coder.specs.Ready.{Clean, Carries, Valid, Ready}
+use Rattle.mq_coder.specs.Rows.{state_of, IsRow}
+use Rattle.mq_coder.specs.declared.rows.Row.{Row}
+use Rattle.mq_coder.proofs.Decisions.{renorm-done, part-cases, valid-part, ready-part, coded-registers, coded-states, states_coded-is, qe-small}
+use Rattle.mq_coder.proofs.Doublings.{doublings-renormalise, quiet, regs-eq}
+use Rattle.mq_coder.specs.declared.interval.Interval.{Interval}
+
+-- ---- the test of the part
+
+beq-true : (x y : Bool) → beq x y ≡ true → x ≡ y
+beq-true true true h = refl
+beq-true true false h = cc
+beq-true false true h = cc
+beq-true false false h = refl
+
+beq-false : (x y : Bool) → beq x y ≡ false → x ≡ not y
+beq-false true true h = cc
+beq-false true false h = refl
+beq-false false true h = refl
+beq-false false false h = cc
+
+lower-by : (m z : Bool) → beq z m ≡ cond m z (not z)
+lower-by true true = refl
+lower-by true false = refl
+lower-by false true = refl
+lower-by false false = refl
+
+pub part-lower :
+    (m : Bool) (qe a c ct : ℕ) (bytes : List ℕ) → beq (nat_lt (a - qe) qe) m ≡ true →
+    record { a = qe; c = c; ct = ct; bytes = bytes } ≡ part_kept m qe (record { a = a; c = c; ct = ct; bytes = bytes })
+unfolding part_kept lower_kept lower_part
+part-lower m qe a c ct bytes h =
+    sym (cond-true (cond m (nat_lt (a - qe) qe) (not (nat_lt (a - qe) qe))) _ _ (sym (lower-by m (nat_lt (a - qe) qe)) ∙ h))
+
+pub part-upper :
+    (m : Bool) (qe a c ct : ℕ) (bytes : List ℕ) → beq (nat_lt (a - qe) qe) m ≡ false →
+    record { a = a - qe; c = c + qe; ct = ct; bytes = bytes } ≡ part_kept m qe (record { a = a; c = c; ct = ct; bytes = bytes })
+unfolding part_kept lower_kept upper_part
+part-upper m qe a c ct bytes h =
+    sym (cond-false (cond m (nat_lt (a - qe) qe) (not (nat_lt (a - qe) qe))) _ _ (sym (lower-by m (nat_lt (a - qe) qe)) ∙ h))
+
+pub mps-test : (b : Bool) (s : State) (m : Bool) → m ≡ s.mps → beq b m ≡ is_mps b s
+unfolding is_mps
+mps-test true s true p = p
+mps-test true s false p = p
+mps-test false s true p = ap not p
+mps-test false s false p = ap not p
+
+-- ---- the count of doublings
+
+pub record Count (a z : ℕ) : Type 0 where
+  pub enough : 16 ≤ z
+  pub few : z - 16 ≤ 15
+  pub high : 0x8000 ≤ a * 2 ^ (z - 16)
+  pub narrow : a * 2 ^ (z - 16) < 2 ^ 16
+
+pub count-of : (a : ℕ) → 0 < a → a < 0x8000 → Count a (count_leading_zeros 32 a)
+count-of a pos low =
+    let t = leading_top 32 a pos (omega arith) in
+    let j = t.0 in
+    let small : j < 15 = elim (cases_lt j 15) [
+      | inl p ↦ p
+      | inr p ↦ absurd (omega (arith, t.2, low, pow_mono p))
+    ] in
+    let z : count_leading_zeros 32 a - 16 ≡ 15 - j = omega (arith, t.1) in
+    let whole : j + (15 - j) ≡ 15 = omega arith in
+    let sum : 2 ^ j * 2 ^ (15 - j) ≡ 2 ^ 15 = sym (pow-add 2 j (15 - j)) ∙ ap (λ n. 2 ^ n) whole in
+    let twice : 2 ^ suc j ≡ 2 * 2 ^ j = rw pow-suc (omega arith) in
+    record {
+      enough = omega (arith, t.1);
+      few = omega (arith, z);
+      high = rw z (omega (arith, mul-le-mul_right (2 ^ (15 - j)) t.2, sum));
+      narrow = rw z (omega (arith, mul-lt-mul_of_pos_right t.3 (pow_pos (15 - j)), ap (λ x. x * 2 ^ (15 - j)) twice, sum));
+    }
+
+pub renormalise-is :
+    (r : Registers) → Valid r → r.a < 0x8000 →
+    renormalised 15 r ≡ doublings (count_leading_zeros 32 r.a - 16) r
+renormalise-is r v low =
+    let n = count-of r.a v.sound.positive low in
+    doublings-renormalise (count_leading_zeros 32 r.a - 16) 15 r v n.few n.high n.narrow
+
+pub shifted-is :
+    (at next : Interval) (bytes : List ℕ) → Valid (registers_of at bytes) → at.a < 0x8000 →
+    count_leading_zeros 32 at.a - 16 < at.ct →
+    next.a ≡ at.a * 2 ^ (count_leading_zeros 32 at.a - 16) % 2 ^ 32 →
+    next.c ≡ at.c * 2 ^ (count_leading_zeros 32 at.a - 16) % 2 ^ 32 →
+    next.ct ≡ at.ct - (count_leading_zeros 32 at.a - 16) →
+    renormalised 15 (registers_of at bytes) ≡ registers_of next bytes
+shifted-is at next bytes v low few a c ct =
+    let s = count_leading_zeros 32 at.a - 16 in
+    let n = count-of at.a v.sound.positive low in
+    renormalise-is (registers_of at bytes) v low
+    ∙ quiet at.a at.c at.ct s (reverse bytes) v n.narrow few
+    ∙ sym (regs-eq next.a (at.a * 2 ^ s % 2 ^ 32) next.c (at.c * 2 ^ s % 2 ^ 32) next.ct (at.ct - s) (reverse bytes) a c ct)
+
+-- ---- the states
+
+pub state_at-map : (xs : List ℕ) (k : ℕ) → state_at (map state_of xs) k ≡ state_of (get_or xs k 0)
+unfolding state_at
+state_at-map [] k = refl
+state_at-map (x ∷ xs) zero = refl
+state_at-map (x ∷ xs) (suc k) = state_at-map xs k
+
+pub map-set : (xs : List ℕ) (k v : ℕ) → map state_of (set xs k v) ≡ set (map state_of xs) k (state_of v)
+map-set [] k v = refl
+map-set (x ∷ xs) zero v = refl
+map-set (x ∷ xs) (suc k) v = ap (λ l. state_of x ∷ l) (map-set xs k v)
+
+set-below : (xs : List ℕ) (k v j : ℕ) → v < 94 → get_or xs j 0 < 94 → get_or (set xs k v) j 0 < 94
+set-below [] k v j p h = h
+set-below (x ∷ xs) zero v zero p h = p
+set-below (x ∷ xs) zero v (suc j) p h = h
+set-below (x ∷ xs) (suc k) v zero p h = h
+set-below (x ∷ xs) (suc k) v (suc j) p h = set-below xs k v j p h
+
+pub states-set :
+    (xs : List ℕ) (k v : ℕ) → v < 94 → ((j : ℕ) → j < 19 → get_or xs j 0 < 94) →
+    (j : ℕ) → j < 19 → get_or (set xs k v) j 0 < 94
+states-set xs k v p h j q = set-below xs k v j p (h j q)
+
+pub next-state :
+    (m : Bool) (n v : ℕ) (row : Row) → IsRow n row → v ≡ cond m row.after_mps row.after_lps →
+    state_of v ≡ cond m (after_mps (state_of n)) (after_lps (state_of n))
+next-state true n v row h p = ap state_of p ∙ h.after_mps_is
+next-state false n v row h p = ap state_of p ∙ h.after_lps_is
+
+pub next-below :
+    (m : Bool) (n v : ℕ) (row : Row) → IsRow n row → v ≡ cond m row.after_mps row.after_lps → v < 94
+next-below true n v row h p = omega (arith, h.mps_state)
+next-below false n v row h p = omega (arith, h.lps_state)
+
+-- ---- a decision
+
+abbrev pub enc : Registers → List State → Encoder
+enc r s = record { registers = r; states = s }
+
+lower-is : (qe : ℕ) (r : Registers) → (lower_part qe r).a ≡ qe
+unfolding lower_part
+lower-is qe r = refl
+
+upper-is : (qe : ℕ) (r : Registers) → (upper_part qe r).a ≡ r.a - qe
+unfolding upper_part
+upper-is qe r = refl
+
+-- the upper part of a less probable symbol is narrow
+lps-narrow : (s : State) (a : ℕ) → lower_kept false (qe_of s) a ≡ false → a - qe_of s < 0x8000
+unfolding lower_kept
+lps-narrow s a h =
+    elim (cases_lt (a - qe_of s) (qe_of s)) [
+      | inl p ↦ omega (arith, qe-small s, p)
+      | inr p ↦ (let t : nat_lt (a - qe_of s) (qe_of s) ≡ false = le-ltb (a - qe_of s) (qe_of s) p in
+          absurd (true_false (sym (ap not t) ∙ h)))
+    ]
+  where
+    true_false : true ≡ false → ⊥
+    true_false p = cc
+
+mps-upper : (s : State) (a : ℕ) → 0x8000 ≤ a - qe_of s → lower_kept true (qe_of s) a ≡ false
+unfolding lower_kept
+mps-upper s a h = le-ltb (a - qe_of s) (qe_of s) (omega (arith, qe-small s))
+
+-- whether the context stays as it is shows in the width of the part
+pub quiet-wide :
+    (m : Bool) (s : State) (r : Registers) → 0x8000 ≤ (part_kept m (qe_of s) r).a →
+    (m && nat_le 0x8000 (r.a - qe_of s)) ≡ true
+quiet-wide true s r =
+    part-cases true (qe_of s) r (λ x. 0x8000 ≤ x.a → nat_le 0x8000 (r.a - qe_of s) ≡ true)
+    (λ _ h. absurd (omega (arith, subst (λ x. 0x8000 ≤ x) (lower-is (qe_of s) r) h, qe-small s)))
+    (λ _ h. le-leb 0x8000 (r.a - qe_of s) (subst (λ x. 0x8000 ≤ x) (upper-is (qe_of s) r) h))
+quiet-wide false s r =
+    part-cases false (qe_of s) r (λ x. 0x8000 ≤ x.a → false ≡ true)
+    (λ _ h. absurd (omega (arith, subst (λ x. 0x8000 ≤ x) (lower-is (qe_of s) r) h, qe-small s)))
+    (λ p h. absurd (omega (arith, subst (λ x. 0x8000 ≤ x) (upper-is (qe_of s) r) h, lps-narrow s r.a p)))
+
+pub moved-narrow :
+    (m : Bool) (s : State) (r : Registers) → (part_kept m (qe_of s) r).a < 0x8000 →
+    (m && nat_le 0x8000 (r.a - qe_of s)) ≡ false
+moved-narrow true s r =
+    part-cases true (qe_of s) r (λ x. x.a < 0x8000 → nat_le 0x8000 (r.a - qe_of s) ≡ false)
+    (λ p _. lt-leb 0x8000 (r.a - qe_of s) (below p))
+    (λ _ h. lt-leb 0x8000 (r.a - qe_of s) (subst (λ x. x < 0x8000) (upper-is (qe_of s) r) h))
+  where
+    true_false : true ≡ false → ⊥
+    true_false p = cc
+
+    below : lower_kept true (qe_of s) r.a ≡ true → r.a - qe_of s < 0x8000
+    below p = elim (cases_lt (r.a - qe_of s) 0x8000) [
+      | inl q ↦ q
+      | inr q ↦ absurd (true_false (sym p ∙ mps-upper s r.a q))
+    ]
+moved-narrow false s r = λ _. refl
+
+pub one-quiet :
+    (e : Encoder) (k : ℕ) (b : Bool) → Ready e.registers →
+    0x8000 ≤ (part_kept (is_mps b (state_at e.states k)) (qe_of (state_at e.states k)) e.registers).a →
+    coded_one e (record { context = k; bit = b }) ≡
+    enc (part_kept (is_mps b (state_at e.states k)) (qe_of (state_at e.states k)) e.registers) e.states
+one-quiet e k b ready h =
+    let s = state_at e.states k in
+    let m = is_mps b s in
+    ap₂ enc
+    (coded-registers e (record { context = k; bit = b }) ready.high ∙ renorm-done 15 (part_kept m (qe_of s) e.registers) h)
+    (coded-states e (record { context = k; bit = b }) ∙ sym (states_coded-is m e.registers.a s e.states k)
+    ∙ cond-true (m && nat_le 0x8000 (e.registers.a - qe_of s)) _ _ (quiet-wide m s e.registers h))
+
+pub one-moved :
+    (e : Encoder) (k : ℕ) (b : Bool) → Ready e.registers →
+    (part_kept (is_mps b (state_at e.states k)) (qe_of (state_at e.states k)) e.registers).a < 0x8000 →
+    coded_one e (record { context = k; bit = b }) ≡
+    enc (renormalised 15 (part_kept (is_mps b (state_at e.states k)) (qe_of (state_at e.states k)) e.registers))
+    (set e.states k (cond (is_mps b (state_at e.states k)) (after_mps (state_at e.states k)) (after_lps (state_at e.states k))))
+one-moved e k b ready h =
+    let s = state_at e.states k in
+    let m = is_mps b s in
+    ap₂ enc
+    (coded-registers e (record { context = k; bit = b }) ready.high)
+    (coded-states e (record { context = k; bit = b }) ∙ sym (states_coded-is m e.registers.a s e.states k)
+    ∙ cond-false (m && nat_le 0x8000 (e.registers.a - qe_of s)) _ _ (moved-narrow m s e.registers h))
+
+-- ---- the same, over what the coder keeps
+
+pub part-known :
+    (xs : List ℕ) (k : ℕ) (b : Bool) (row : Row) (r p : Registers) → IsRow (get_or xs k 0) row →
+    p ≡ part_kept (beq b row.mps) row.qe r →
+    p ≡ part_kept (is_mps b (state_at (map state_of xs) k)) (qe_of (state_at (map state_of xs) k)) r
+part-known xs k b row r p h e =
+    let s = state_of (get_or xs k 0) in
+    e ∙ ap₂ (λ m q. part_kept m q r) (mps-test b s row.mps h.mps) h.qe
+    ∙ ap (λ s. part_kept (is_mps b s) (qe_of s) r) (sym (state_at-map xs k))
+
+pub code-valid :
+    (xs : List ℕ) (k : ℕ) (b : Bool) (row : Row) (r p : Registers) → Ready r → IsRow (get_or xs k 0) row →
+    p ≡ part_kept (beq b row.mps) row.qe r → Valid p
+code-valid xs k b row r p ready h e =
+    let s = state_at (map state_of xs) k in
+    subst Valid (sym (part-known xs k b row r p h e)) (valid-part (is_mps b s) s r ready)
+
+pub quiet-code :
+    (xs : List ℕ) (k : ℕ) (b : Bool) (row : Row) (r p : Registers) → Ready r → IsRow (get_or xs k 0) row →
+    p ≡ part_kept (beq b row.mps) row.qe r → 0x8000 ≤ p.a →
+    enc p (map state_of xs) ≡ coded_one (enc r (map state_of xs)) (record { context = k; bit = b })
+quiet-code xs k b row r p ready h e wide =
+    let same = part-known xs k b row r p h e in
+    ap (λ q. enc q (map state_of xs)) same
+    ∙ sym (one-quiet (enc r (map state_of xs)) k b ready (subst (λ q. 0x8000 ≤ q.a) same wide))
+
+pub moved-ready :
+    (xs : List ℕ) (k : ℕ) (b : Bool) (row : Row) (r p p' : Registers) → Ready r → IsRow (get_or xs k 0) row →
+    p ≡ part_kept (beq b row.mps) row.qe r → renormalised 15 p ≡ p' → Ready p'
+moved-ready xs k b row r p p' ready h e moved =
+    let s = state_at (map state_of xs) k in
+    let same = part-known xs k b row r p h e in
+    subst Ready (sym (ap (renormalised 15) same) ∙ moved) (ready-part (is_mps b s) s r ready)
+
+pub moved-code :
+    (xs : List ℕ) (k v : ℕ) (b : Bool) (row : Row) (r p p' : Registers) → Ready r → IsRow (get_or xs k 0) row →
+    p ≡ part_kept (beq b row.mps) row.qe r → p.a < 0x8000 → renormalised 15 p ≡ p' →
+    v ≡ cond (beq b row.mps) row.after_mps row.after_lps →
+    enc p' (map state_of (set xs k v)) ≡ coded_one (enc r (map state_of xs)) (record { context = k; bit = b })
+moved-code xs k v b row r p p' ready h e low moved chosen =
+    let n = get_or xs k 0 in
+    let s = state_of n in
+    let same = part-known xs k b row r p h e in
+    let next : state_of v ≡ cond (is_mps b s) (after_mps s) (after_lps s) =
+    next-state (beq b row.mps) n v row h chosen ∙ ap (λ m. cond m (after_mps s) (after_lps s)) (mps-test b s row.mps h.mps) in
+    let states : map state_of (set xs k v) ≡ set (map state_of xs) k (cond (is_mps b (state_at (map state_of xs) k)) (after_mps (state_at (map state_of xs) k)) (after_lps (state_at (map state_of xs) k))) =
+    map-set xs k v ∙ ap (set (map state_of xs) k) (next ∙ ap (λ s. cond (is_mps b s) (after_mps s) (after_lps s)) (sym (state_at-map xs k))) in
+    ap₂ enc (sym moved ∙ ap (renormalised 15) same) states
+    ∙ sym (one-moved (enc r (map state_of xs)) k b ready (subst (λ q. q.a < 0x8000) same low))
+
+-- ---- the start
+
+pub ready-new : (bytes : List ℕ) → bytes ≡ [] → Ready (record { a = 0x8000; c = 0; ct = 12; bytes = bytes })
+unfolding Clean Carries
+ready-new bytes none =
+    rw none (record {
+      valid = record {
+        sound = record { positive = omega arith; within = omega arith; carries = omega arith; clean = tt };
+        before_byte = omega arith;
+        shifts = omega arith;
+        narrow = omega arith;
+      };
+      high = omega arith;
+    })
+
+all_below : List ℕ → Bool
+all_below [] = true
+all_below (x ∷ xs) = nat_lt x 94 && all_below xs
+
+below-at : (xs : List ℕ) (k : ℕ) → all_below xs ≡ true → get_or xs k 0 < 94
+unfolding all_below
+below-at [] k h = omega arith
+below-at (x ∷ xs) zero h = ltb-true x 94 (and_parts (nat_lt x 94) (all_below xs) h).0
+below-at (x ∷ xs) (suc k) h = below-at xs k (and_parts (nat_lt x 94) (all_below xs) h).1
+
+abbrev pub first_states : List ℕ
+first_states = 8 ∷ 0 ∷ 0 ∷ 0 ∷ 0 ∷ 0 ∷ 0 ∷ 0 ∷ 0 ∷ 0 ∷ 0 ∷ 0 ∷ 0 ∷ 0 ∷ 0 ∷ 0 ∷ 0 ∷ 6 ∷ 92 ∷ []
+
+pub first-below : (k : ℕ) → k < 19 → get_or first_states k 0 < 94
+unfolding all_below
+first-below k p = below-at first_states k refl
+
+pub start-is : (bytes : List ℕ) → bytes ≡ [] → enc (record { a = 0x8000; c = 0; ct = 12; bytes = bytes }) (map state_of first_states) ≡ start
+unfolding start start_states
+start-is bytes none = ap (λ b. enc (record { a = 0x8000; c = 0; ct = 12; bytes = b }) (map state_of first_states)) none

@@ -1,0 +1,16 @@
+pub mod Numbers
+pub mod Ahead
+pub mod Sound
+pub mod Steps
+pub mod Decisions
+pub mod Flush
+pub mod Tracking
+pub mod ReadBack
+pub mod Table
+pub mod Outputs
+pub mod Doublings
+pub mod Coding
+pub mod Endings
+pub mod Resume
+pub mod Inputs
+pub mod Bits

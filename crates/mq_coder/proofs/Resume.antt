@@ -1,0 +1,277 @@
+-- An ending, and the codeword that is made from it.
+use Rattle.std.proofs.Common.{subst, ◌≡◌, ℕ, ◌+◌, ◌-◌, ◌*◌, ◌/◌, ◌%◌, ◌^◌, ◌<◌, ◌≤◌, ◌≢◌, List, [], ◌∷◌, ◌++◌, reverse, length, take, refl, sym, ap, ◌∙◌, arith, length-take, append_assoc, inl, inr, zero, suc}
+use Rattle.std.specs.Prelude.{bit_and}
+use Rattle.std.proofs.lemmas.List.{reverse-reverse, length-reverse, reverse-append}
+use Rattle.std.proofs.lemmas.Nat.{and_mask}
+use Rattle.mast_world.specs.Mq.{Registers, Decision, last_byte, behind, coded, coded_from, start, codeword, without_last_ff, with_carry, doubled, renormalised, lower_part, upper_part, coded_one, state_at, is_mps, qe_of, Encoder}
+use Rattle.mq_coder.specs.Endings.{Continues, ending_of}
+use Rattle.mq_coder.specs.Marks.{mark_of}
+use Rattle.mq_coder.specs.Ready.{Clean, Ready, Sound, Valid}
+use Rattle.mq_coder.specs.Bytes.{with_last, registers_of}
+use Rattle.mq_coder.specs.Tails.{IsTail}
+use Rattle.mq_coder.specs.declared.interval.Interval.{Interval}
+use Rattle.mq_coder.specs.declared.tail.Tail.{Tail}
+use Rattle.mq_coder.proofs.Endings.{flushed-is}
+use Rattle.mq_coder.specs.declared.ending.Ending.{Ending}
+use Rattle.mq_coder.proofs.Decisions.{ready-coded_from, renorm-zero, renorm-cases, part-cases, valid-part, coded-registers, ready-coded_one, coded_from-cons, coded_from-nil}
+use Rattle.mq_coder.specs.Parts.{part_kept}
+use Rattle.mq_coder.proofs.Sound.{Out}
+use Rattle.mq_coder.proofs.Steps.{regs, ct-form, doubled-quiet, doubled-out, valid-doubled}
+use Rattle.mq_coder.proofs.Outputs.{reverse-push}
+use Rattle.mq_coder.proofs.ReadBack.{ready-start}
+
+pub behind-length : (l : List ℕ) → length (behind l) ≡ length l - 1
+unfolding behind
+behind-length [] = refl
+behind-length (b ∷ l) = omega arith
+
+pub front-length : (bytes : List ℕ) → length bytes - 1 ≡ length (behind (reverse bytes))
+front-length bytes = omega (arith, behind-length (reverse bytes), length-reverse bytes)
+
+mark-of : (l : List ℕ) → 0 < length l → 0x1000000 + last_byte l * 0x10000 ≡ mark_of l
+unfolding last_byte
+mark-of [] p = absurd (omega arith)
+mark-of (b ∷ l) p = refl
+
+pub mark-reverse : (bytes : List ℕ) → length bytes ≢ 0 → 0x1000000 + last_byte (reverse bytes) * 0x10000 ≡ mark_of (reverse bytes)
+mark-reverse bytes p = mark-of (reverse bytes) (omega (arith, length-reverse bytes))
+
+pub mark-empty : (bytes : List ℕ) → length bytes ≡ 0 → 0 ≡ mark_of (reverse bytes)
+mark-empty bytes p = none (reverse bytes) (length-reverse bytes ∙ p)
+  where
+    none : (l : List ℕ) → length l ≡ 0 → 0 ≡ mark_of l
+    none [] q = refl
+    none (b ∷ l) q = absurd (omega arith)
+
+pub ready-coded : (ds : List Decision) → Ready (coded ds).registers
+unfolding coded
+ready-coded ds = ready-coded_from start ds ready-start
+
+-- what an ending keeps of the registers
+pub record Holds (r : Registers) (bytes : List ℕ) (en : Ending) : Type 0 where
+  pub a : en.a ≡ r.a + mark_of r.bytes
+  pub c : en.c ≡ r.c
+  pub ct : en.ct ≡ r.ct
+  pub kept : en.kept ≡ length (behind r.bytes)
+  pub begins : take en.kept bytes ≡ reverse (behind r.bytes)
+  pub ready : Ready r
+
+pub holds : (ds : List Decision) (bytes : List ℕ) (en : Ending) → Continues ds bytes en → Holds (coded ds).registers bytes en
+holds ds bytes en k =
+    record {
+      a = ap (λ e. e.a) k.taken;
+      c = ap (λ e. e.c) k.taken;
+      ct = ap (λ e. e.ct) k.taken;
+      kept = ap (λ e. e.kept) k.taken;
+      begins = k.begins;
+      ready = ready-coded ds;
+    }
+
+pub kept-fits : (r : Registers) (bytes : List ℕ) (en : Ending) → Holds r bytes en → en.kept ≤ length bytes
+kept-fits r bytes en h =
+    omega (arith, ap length h.begins, length-take en.kept bytes, length-reverse (behind r.bytes), h.kept)
+
+mark-small : (l : List ℕ) → Clean l → mark_of l % 0x10000 ≡ 0
+mark-small [] k = refl
+mark-small (b ∷ l) k = omega arith
+
+pub low-half : (r : Registers) (bytes : List ℕ) (en : Ending) → Holds r bytes en → bit_and en.a 0xFFFF ≡ r.a
+low-half r bytes en h =
+    and_mask en.a 16
+    ∙ omega (arith, h.a, h.ready.valid.narrow, mark-small r.bytes h.ready.valid.sound.clean)
+
+by-bytes-none :
+    (a en_a : ℕ) (l : List ℕ) → a < 2 ^ 16 → en_a ≡ a + mark_of l → en_a / 2 ^ 24 ≤ 0 → l ≡ []
+by-bytes-none a en_a [] p e q = refl
+by-bytes-none a en_a (b ∷ l) p e q = absurd (omega arith)
+
+pub begun-none :
+    (r : Registers) (bytes : List ℕ) (en : Ending) → Holds r bytes en → en.a / 2 ^ 24 ≤ 0 →
+    reverse (take en.kept bytes) ≡ r.bytes
+unfolding behind
+begun-none r bytes en h p =
+    let none : r.bytes ≡ [] = by-bytes-none r.a en.a r.bytes h.ready.valid.narrow h.a p in
+    ap reverse (h.begins ∙ ap (λ l. reverse (behind l)) none) ∙ sym none
+
+mark-byte :
+    (a en_a : ℕ) (l : List ℕ) → a < 2 ^ 16 → Clean l → en_a ≡ a + mark_of l → 0 < en_a / 2 ^ 24 →
+    (bit_and (en_a / 2 ^ 16) 255) ∷ behind l ≡ l
+unfolding behind Clean
+mark-byte a en_a [] p k e q = absurd (omega arith)
+mark-byte a en_a (b ∷ l) p k e q =
+    let low : bit_and (en_a / 2 ^ 16) 255 ≡ b = and_mask (en_a / 2 ^ 16) 8 ∙ omega (arith, k.0) in
+    ap (λ x. x ∷ l) low
+
+pub begun-some :
+    (r : Registers) (bytes out : List ℕ) (en : Ending) → Holds r bytes en → 0 < en.a / 2 ^ 24 →
+    out ≡ take en.kept bytes ++ (bit_and (en.a / 2 ^ 16) 255) ∷ [] → reverse out ≡ r.bytes
+begun-some r bytes out en h p q =
+    ap reverse q ∙ reverse-push (take en.kept bytes) (bit_and (en.a / 2 ^ 16) 255)
+    ∙ ap (λ l. (bit_and (en.a / 2 ^ 16) 255) ∷ l) (ap reverse h.begins ∙ reverse-reverse (behind r.bytes))
+    ∙ mark-byte r.a en.a r.bytes h.ready.valid.narrow h.ready.valid.sound.clean h.a p
+
+-- ---- the end of the codeword, from the registers that an ending keeps
+
+pub within-of : (r : Registers) (bytes : List ℕ) (en : Ending) (ct : ℕ) → Holds r bytes en → ct ≡ en.ct →
+    (en.c + bit_and en.a 0xFFFF) * 2 ^ ct ≤ 0x9000000
+within-of r bytes en ct h p =
+    rw (low-half r bytes en h, p, h.ct, h.c) h.ready.valid.sound.within
+
+pub wide-of : (r : Registers) (bytes : List ℕ) (en : Ending) → Holds r bytes en → 0x8000 ≤ bit_and en.a 0xFFFF
+wide-of r bytes en h = rw (low-half r bytes en h) h.ready.high
+
+pub shifts-of : (r : Registers) (bytes : List ℕ) (en : Ending) (ct : ℕ) → Holds r bytes en → ct ≡ en.ct → ct ≤ 12
+shifts-of r bytes en ct h p = omega (arith, h.ct, h.ready.valid.shifts)
+
+pub resumed :
+    (ds : List Decision) (bytes out : List ℕ) (en : Ending) (at : Interval) (new : List ℕ) (last : ℕ) (t : Tail) →
+    Continues ds bytes en → reverse out ≡ (coded ds).registers.bytes →
+    at.a ≡ bit_and en.a 0xFFFF → at.c ≡ en.c → at.ct ≡ en.ct →
+    last ≡ last_byte (reverse out) → IsTail last at t →
+    reverse new ≡ without_last_ff (t.second ∷ t.first ∷ with_last t.last (reverse out)) → new ≡ codeword ds
+unfolding codeword
+resumed ds bytes out en at new last t k is_out is_a is_c is_ct is_last tail is_new =
+    let h = holds ds bytes en k in
+    let r = (coded ds).registers in
+    let same : record { registers = registers_of at out; states = (coded ds).states } ≡ coded ds =
+    rw (is_a, low-half r bytes en h, is_c, h.c, is_ct, h.ct, is_out) refl in
+    flushed-is (coded ds) at out new (coded ds).states last t same is_last tail is_new
+
+-- ---- an ending of no decisions
+
+coded-none : coded [] ≡ start
+unfolding coded coded_from
+coded-none = refl
+
+start-bytes : start.registers.bytes ≡ []
+unfolding start
+start-bytes = refl
+
+none-kept : reverse (behind []) ≡ []
+unfolding behind
+none-kept = refl
+
+behind-none : length (behind []) ≡ 0
+unfolding behind
+behind-none = refl
+
+take-none : (n : ℕ) (xs : List ℕ) → n ≡ 0 → take n xs ≡ []
+take-none n xs p = ap (λ n. take n xs) p
+
+pub continues-start : (bytes : List ℕ) (en : Ending) → en ≡ ending_of start → Continues [] bytes en
+continues-start bytes en p =
+    let none : (coded []).registers.bytes ≡ [] = ap (λ e. e.registers.bytes) coded-none ∙ start-bytes in
+    let kept : en.kept ≡ 0 = ap (λ e. e.kept) p ∙ ap (λ l. length (behind l)) start-bytes ∙ behind-none in
+    record {
+      taken = p ∙ ap ending_of (sym coded-none);
+      begins = take-none en.kept bytes kept ∙ sym (ap (λ l. reverse (behind l)) none ∙ none-kept);
+    }
+
+-- ---- bytes that came out stay
+
+-- the bytes in front of the last one are in front of it later too
+pub record Begins (before after : List ℕ) : Type 0 where
+  pub more : List ℕ
+  pub same : after ≡ more ++ before
+
+begins-self : (xs : List ℕ) → Begins xs xs
+begins-self xs = record { more = []; same = refl }
+
+begins-trans : (a b c : List ℕ) → Begins a b → Begins b c → Begins a c
+begins-trans a b c p q =
+    record { more = q.more ++ p.more; same = q.same ∙ ap (λ l. q.more ++ l) p.same ∙ sym (append_assoc q.more p.more a) }
+
+behind-carry : (bs : List ℕ) → behind (with_carry bs) ≡ behind bs
+unfolding behind with_carry
+behind-carry [] = refl
+behind-carry (b ∷ bs) = refl
+
+behind-more : (bs : List ℕ) → Begins (behind bs) bs
+unfolding behind
+behind-more [] = begins-self []
+behind-more (b ∷ bs) = record { more = b ∷ []; same = refl }
+
+out-begins : (before : List ℕ) (a c w : ℕ) (r : Registers) → Out before a c w r → Begins (behind before) (behind r.bytes)
+unfolding behind
+out-begins before a c w r o =
+    let tail : behind r.bytes ≡ o.bs = ap behind o.shape in
+    let front : behind o.bs ≡ behind before = elim o.carried [
+      | inl p ↦ ap behind p
+      | inr p ↦ ap behind p ∙ behind-carry before
+    ] in
+    subst (Begins (behind before)) (sym tail) (subst (λ l. Begins l o.bs) front (behind-more o.bs))
+
+doubled-begins' :
+    (a c n : ℕ) (bytes : List ℕ) → Sound a bytes c (suc n) → a < 0x8000 →
+    Begins (behind bytes) (behind (doubled (regs a c (suc n) bytes)).bytes)
+doubled-begins' a c zero bytes s low =
+    out-begins bytes (2 * a) (2 * c) (2 * a) (doubled (regs a c 1 bytes)) (doubled-out a c bytes s low)
+doubled-begins' a c (suc n) bytes s low =
+    subst (λ r. Begins (behind bytes) (behind r.bytes)) (sym (doubled-quiet a c n bytes)) (begins-self (behind bytes))
+
+doubled-begins : (r : Registers) → Valid r → r.a < 0x8000 → Begins (behind r.bytes) (behind (doubled r).bytes)
+doubled-begins r v low =
+    let e : r.ct ≡ suc (r.ct - 1) = omega (arith, v.before_byte) in
+    subst (λ x. Begins (behind x.bytes) (behind (doubled x).bytes)) (sym (ct-form r v.before_byte))
+    (doubled-begins' r.a r.c (r.ct - 1) r.bytes (subst (λ n. Sound r.a r.bytes r.c n) e v.sound) low)
+
+renorm-begins : (n : ℕ) (r : Registers) → Valid r → Begins (behind r.bytes) (behind (renormalised n r).bytes)
+renorm-begins zero r v = subst (λ x. Begins (behind r.bytes) (behind x.bytes)) (sym (renorm-zero r)) (begins-self (behind r.bytes))
+renorm-begins (suc n) r v =
+    renorm-cases n r (λ x. Begins (behind r.bytes) (behind x.bytes))
+    (λ low. begins-trans (behind r.bytes) (behind (doubled r).bytes) (behind (renormalised n (doubled r)).bytes)
+    (doubled-begins r v low) (renorm-begins n (doubled r) (valid-doubled r v low)))
+    (λ _. begins-self (behind r.bytes))
+
+lower-bytes : (qe : ℕ) (r : Registers) → (lower_part qe r).bytes ≡ r.bytes
+unfolding lower_part
+lower-bytes qe r = refl
+
+upper-bytes : (qe : ℕ) (r : Registers) → (upper_part qe r).bytes ≡ r.bytes
+unfolding upper_part
+upper-bytes qe r = refl
+
+one-begins : (e : Encoder) (d : Decision) → Ready e.registers → Begins (behind e.registers.bytes) (behind (coded_one e d).registers.bytes)
+one-begins e d ready =
+    let s = state_at e.states d.context in
+    let m = is_mps d.bit s in
+    let p = part_kept m (qe_of s) e.registers in
+    let same : p.bytes ≡ e.registers.bytes =
+    part-cases m (qe_of s) e.registers (λ x. x.bytes ≡ e.registers.bytes) (λ _. lower-bytes (qe_of s) e.registers) (λ _. upper-bytes (qe_of s) e.registers) in
+    subst (λ x. Begins (behind e.registers.bytes) (behind x.bytes)) (sym (coded-registers e d ready.high))
+    (subst (λ l. Begins (behind l) (behind (renormalised 15 p).bytes)) same (renorm-begins 15 p (valid-part m s e.registers ready)))
+
+pub coded-begins : (e : Encoder) (ds : List Decision) → Ready e.registers → Begins (behind e.registers.bytes) (behind (coded_from e ds).registers.bytes)
+coded-begins e [] ready = subst (λ x. Begins (behind e.registers.bytes) (behind x.registers.bytes)) (sym (coded_from-nil e)) (begins-self (behind e.registers.bytes))
+coded-begins e (d ∷ ds) ready =
+    subst (λ x. Begins (behind e.registers.bytes) (behind x.registers.bytes)) (sym (coded_from-cons e d ds))
+    (begins-trans (behind e.registers.bytes) (behind (coded_one e d).registers.bytes) (behind (coded_from (coded_one e d) ds).registers.bytes)
+    (one-begins e d ready) (coded-begins (coded_one e d) ds (ready-coded_one e d ready)))
+
+take-front : (xs ys : List ℕ) → take (length xs) (xs ++ ys) ≡ xs
+take-front [] ys = refl
+take-front (x ∷ xs) ys = ap (λ l. x ∷ l) (take-front xs ys)
+
+kept-front : (before after : List ℕ) → Begins (behind before) after → take (length (behind before)) (reverse after) ≡ reverse (behind before)
+kept-front before after p =
+    let turned : reverse after ≡ reverse (behind before) ++ reverse p.more = ap reverse p.same ∙ reverse-append p.more (behind before) in
+    ap (λ n. take n (reverse after)) (sym (length-reverse (behind before)))
+    ∙ ap (take (length (reverse (behind before)))) turned ∙ take-front (reverse (behind before)) (reverse p.more)
+
+whole-begins : (before after : List ℕ) → Begins (behind before) (behind after) → Begins (behind before) after
+whole-begins before after p = begins-trans (behind before) (behind after) after p (behind-more after)
+
+-- an ending goes on over the bytes of the same coder after any further decisions
+pub continues-later :
+    (ds later : List Decision) (en : Ending) → en ≡ ending_of (coded ds) →
+    Continues ds (reverse (coded_from (coded ds) later).registers.bytes) en
+continues-later ds later en p =
+    let kept : en.kept ≡ length (behind (coded ds).registers.bytes) = ap (λ e. e.kept) p in
+    record {
+      taken = p;
+      begins =
+          ap (λ n. take n (reverse (coded_from (coded ds) later).registers.bytes)) kept
+          ∙ kept-front (coded ds).registers.bytes (coded_from (coded ds) later).registers.bytes
+          (whole-begins (coded ds).registers.bytes (coded_from (coded ds) later).registers.bytes
+          (coded-begins (coded ds) later (ready-coded ds)));
+    }

@@ -1,0 +1,72 @@
+-- The table of states is Table C.2 at each of its 94 entries, by computing.
+use Rattle.std.proofs.Common.{◌≡◌, ℕ, zero, suc, ◌<◌, Bool, true, false, ◌&&◌, get_or, List, refl, ap₂, arith, inl, inr}
+use Rattle.std.specs.Prelude.{nat_lt, ◌==◌}
+use Rattle.std.specs.Bool.{beq}
+use Rattle.std.proofs.lemmas.Bool.{cases_eq, and_parts, ltb-true, eqb-true}
+use Rattle.mast_world.specs.Mq.{State, row_at, probabilities, qe_of, after_mps, after_lps}
+use Rattle.mq_coder.specs.Rows.{state_of, IsRow}
+use Rattle.mq_coder.specs.declared.rows.Row.{Row}
+use Rattle.mq_coder.specs.declared.rows.TheConstants.{ROWS}
+
+beq-true : (x y : Bool) → beq x y ≡ true → x ≡ y
+beq-true true true h = refl
+beq-true true false h = cc
+beq-true false true h = cc
+beq-true false false h = refl
+
+same_state : State → State → Bool
+same_state s t = (s.index == t.index) && beq s.mps t.mps
+
+same_state-is : (s t : State) → same_state s t ≡ true → s ≡ t
+unfolding same_state
+same_state-is s t h =
+    let p = and_parts (s.index == t.index) (beq s.mps t.mps) h in
+    ap₂ state (eqb-true s.index t.index p.0) (beq-true s.mps t.mps p.1)
+  where
+    state : ℕ → Bool → State
+    state i m = record { index = i; mps = m }
+
+is_row : ℕ → Row → Bool
+is_row n r =
+    (r.qe == qe_of (state_of n)) && beq r.mps (state_of n).mps && same_state (state_of r.after_mps) (after_mps (state_of n))
+    && same_state (state_of r.after_lps) (after_lps (state_of n)) && nat_lt r.after_mps 94 && nat_lt r.after_lps 94
+
+is_row-is : (n : ℕ) (r : Row) → is_row n r ≡ true → IsRow n r
+unfolding is_row
+is_row-is n r h =
+    let p1 = and_parts _ (nat_lt r.after_lps 94) h in
+    let p2 = and_parts _ (nat_lt r.after_mps 94) p1.0 in
+    let p3 = and_parts _ (same_state (state_of r.after_lps) (after_lps (state_of n))) p2.0 in
+    let p4 = and_parts _ (same_state (state_of r.after_mps) (after_mps (state_of n))) p3.0 in
+    let p5 = and_parts (r.qe == qe_of (state_of n)) (beq r.mps (state_of n).mps) p4.0 in
+    record {
+      qe = eqb-true r.qe (qe_of (state_of n)) p5.0;
+      mps = beq-true r.mps (state_of n).mps p5.1;
+      after_mps_is = same_state-is (state_of r.after_mps) (after_mps (state_of n)) p4.1;
+      after_lps_is = same_state-is (state_of r.after_lps) (after_lps (state_of n)) p3.1;
+      mps_state = ltb-true r.after_mps 94 p2.1;
+      lps_state = ltb-true r.after_lps 94 p1.1;
+    }
+
+none : Row
+none = record { qe = 0; mps = false; after_mps = 0; after_lps = 0 }
+
+all_rows : List Row → ℕ → Bool
+all_rows rows zero = true
+all_rows rows (suc n) = is_row n (get_or rows n (record { qe = 0; mps = false; after_mps = 0; after_lps = 0 })) && all_rows rows n
+
+row-below :
+    (rows : List Row) (n i : ℕ) → all_rows rows n ≡ true → i < n →
+    IsRow i (get_or rows i (record { qe = 0; mps = false; after_mps = 0; after_lps = 0 }))
+unfolding all_rows
+row-below rows zero i h p = absurd (omega arith)
+row-below rows (suc n) i h p =
+    let both = and_parts (is_row n (get_or rows n (record { qe = 0; mps = false; after_mps = 0; after_lps = 0 }))) (all_rows rows n) h in
+    elim (cases_eq i n) [
+      | inl e ↦ rw e (is_row-is n (get_or rows n (record { qe = 0; mps = false; after_mps = 0; after_lps = 0 })) both.0)
+      | inr e ↦ row-below rows n i both.1 (omega arith)
+    ]
+
+pub rows-are : (i : ℕ) → i < 94 → IsRow i (get_or ROWS i (record { qe = 0; mps = false; after_mps = 0; after_lps = 0 }))
+unfolding all_rows is_row same_state qe_of row_at probabilities after_mps after_lps
+rows-are i p = row-below ROWS 94 i refl p

@@ -1,0 +1,597 @@
+ghost use Rattle.std.specs.Prelude.{◌<◌};
+ghost use Rattle.mq_coder.specs.Rows.{IsRow};
+
+/// What Table C.2 says of a state: a row of it and the more probable symbol together.
+#[derive(Clone, Copy, Debug)]
+pub(crate) struct Row {
+    /// The probability of the less probable symbol.
+    pub(crate) qe: u32,
+    /// The more probable symbol.
+    pub(crate) mps: bool,
+    /// The state after the more probable symbol.
+    pub(crate) after_mps: u8,
+    /// The state after the less probable symbol.
+    pub(crate) after_lps: u8,
+}
+
+/// The number of states.
+pub(crate) const STATES: u8 = 94;
+
+/// The states of the contexts 0 to 18 at the start (Table D.7).
+pub(crate) const START: [u8; 19] = [8, 0, 0, 0, 0, 0, 0, 0, 0, 0, 0, 0, 0, 0, 0, 0, 0, 6, 92];
+
+/// Table C.2 by states: twice the row's index, and one more where the more probable symbol is 1.
+static ROWS: [Row; 94] = [
+    Row {
+        qe: 0x5601,
+        mps: false,
+        after_mps: 2,
+        after_lps: 3,
+    },
+    Row {
+        qe: 0x5601,
+        mps: true,
+        after_mps: 3,
+        after_lps: 2,
+    },
+    Row {
+        qe: 0x3401,
+        mps: false,
+        after_mps: 4,
+        after_lps: 12,
+    },
+    Row {
+        qe: 0x3401,
+        mps: true,
+        after_mps: 5,
+        after_lps: 13,
+    },
+    Row {
+        qe: 0x1801,
+        mps: false,
+        after_mps: 6,
+        after_lps: 18,
+    },
+    Row {
+        qe: 0x1801,
+        mps: true,
+        after_mps: 7,
+        after_lps: 19,
+    },
+    Row {
+        qe: 0x0ac1,
+        mps: false,
+        after_mps: 8,
+        after_lps: 24,
+    },
+    Row {
+        qe: 0x0ac1,
+        mps: true,
+        after_mps: 9,
+        after_lps: 25,
+    },
+    Row {
+        qe: 0x0521,
+        mps: false,
+        after_mps: 10,
+        after_lps: 58,
+    },
+    Row {
+        qe: 0x0521,
+        mps: true,
+        after_mps: 11,
+        after_lps: 59,
+    },
+    Row {
+        qe: 0x0221,
+        mps: false,
+        after_mps: 76,
+        after_lps: 66,
+    },
+    Row {
+        qe: 0x0221,
+        mps: true,
+        after_mps: 77,
+        after_lps: 67,
+    },
+    Row {
+        qe: 0x5601,
+        mps: false,
+        after_mps: 14,
+        after_lps: 13,
+    },
+    Row {
+        qe: 0x5601,
+        mps: true,
+        after_mps: 15,
+        after_lps: 12,
+    },
+    Row {
+        qe: 0x5401,
+        mps: false,
+        after_mps: 16,
+        after_lps: 28,
+    },
+    Row {
+        qe: 0x5401,
+        mps: true,
+        after_mps: 17,
+        after_lps: 29,
+    },
+    Row {
+        qe: 0x4801,
+        mps: false,
+        after_mps: 18,
+        after_lps: 28,
+    },
+    Row {
+        qe: 0x4801,
+        mps: true,
+        after_mps: 19,
+        after_lps: 29,
+    },
+    Row {
+        qe: 0x3801,
+        mps: false,
+        after_mps: 20,
+        after_lps: 28,
+    },
+    Row {
+        qe: 0x3801,
+        mps: true,
+        after_mps: 21,
+        after_lps: 29,
+    },
+    Row {
+        qe: 0x3001,
+        mps: false,
+        after_mps: 22,
+        after_lps: 34,
+    },
+    Row {
+        qe: 0x3001,
+        mps: true,
+        after_mps: 23,
+        after_lps: 35,
+    },
+    Row {
+        qe: 0x2401,
+        mps: false,
+        after_mps: 24,
+        after_lps: 36,
+    },
+    Row {
+        qe: 0x2401,
+        mps: true,
+        after_mps: 25,
+        after_lps: 37,
+    },
+    Row {
+        qe: 0x1c01,
+        mps: false,
+        after_mps: 26,
+        after_lps: 40,
+    },
+    Row {
+        qe: 0x1c01,
+        mps: true,
+        after_mps: 27,
+        after_lps: 41,
+    },
+    Row {
+        qe: 0x1601,
+        mps: false,
+        after_mps: 58,
+        after_lps: 42,
+    },
+    Row {
+        qe: 0x1601,
+        mps: true,
+        after_mps: 59,
+        after_lps: 43,
+    },
+    Row {
+        qe: 0x5601,
+        mps: false,
+        after_mps: 30,
+        after_lps: 29,
+    },
+    Row {
+        qe: 0x5601,
+        mps: true,
+        after_mps: 31,
+        after_lps: 28,
+    },
+    Row {
+        qe: 0x5401,
+        mps: false,
+        after_mps: 32,
+        after_lps: 28,
+    },
+    Row {
+        qe: 0x5401,
+        mps: true,
+        after_mps: 33,
+        after_lps: 29,
+    },
+    Row {
+        qe: 0x5101,
+        mps: false,
+        after_mps: 34,
+        after_lps: 30,
+    },
+    Row {
+        qe: 0x5101,
+        mps: true,
+        after_mps: 35,
+        after_lps: 31,
+    },
+    Row {
+        qe: 0x4801,
+        mps: false,
+        after_mps: 36,
+        after_lps: 32,
+    },
+    Row {
+        qe: 0x4801,
+        mps: true,
+        after_mps: 37,
+        after_lps: 33,
+    },
+    Row {
+        qe: 0x3801,
+        mps: false,
+        after_mps: 38,
+        after_lps: 34,
+    },
+    Row {
+        qe: 0x3801,
+        mps: true,
+        after_mps: 39,
+        after_lps: 35,
+    },
+    Row {
+        qe: 0x3401,
+        mps: false,
+        after_mps: 40,
+        after_lps: 36,
+    },
+    Row {
+        qe: 0x3401,
+        mps: true,
+        after_mps: 41,
+        after_lps: 37,
+    },
+    Row {
+        qe: 0x3001,
+        mps: false,
+        after_mps: 42,
+        after_lps: 38,
+    },
+    Row {
+        qe: 0x3001,
+        mps: true,
+        after_mps: 43,
+        after_lps: 39,
+    },
+    Row {
+        qe: 0x2801,
+        mps: false,
+        after_mps: 44,
+        after_lps: 38,
+    },
+    Row {
+        qe: 0x2801,
+        mps: true,
+        after_mps: 45,
+        after_lps: 39,
+    },
+    Row {
+        qe: 0x2401,
+        mps: false,
+        after_mps: 46,
+        after_lps: 40,
+    },
+    Row {
+        qe: 0x2401,
+        mps: true,
+        after_mps: 47,
+        after_lps: 41,
+    },
+    Row {
+        qe: 0x2201,
+        mps: false,
+        after_mps: 48,
+        after_lps: 42,
+    },
+    Row {
+        qe: 0x2201,
+        mps: true,
+        after_mps: 49,
+        after_lps: 43,
+    },
+    Row {
+        qe: 0x1c01,
+        mps: false,
+        after_mps: 50,
+        after_lps: 44,
+    },
+    Row {
+        qe: 0x1c01,
+        mps: true,
+        after_mps: 51,
+        after_lps: 45,
+    },
+    Row {
+        qe: 0x1801,
+        mps: false,
+        after_mps: 52,
+        after_lps: 46,
+    },
+    Row {
+        qe: 0x1801,
+        mps: true,
+        after_mps: 53,
+        after_lps: 47,
+    },
+    Row {
+        qe: 0x1601,
+        mps: false,
+        after_mps: 54,
+        after_lps: 48,
+    },
+    Row {
+        qe: 0x1601,
+        mps: true,
+        after_mps: 55,
+        after_lps: 49,
+    },
+    Row {
+        qe: 0x1401,
+        mps: false,
+        after_mps: 56,
+        after_lps: 50,
+    },
+    Row {
+        qe: 0x1401,
+        mps: true,
+        after_mps: 57,
+        after_lps: 51,
+    },
+    Row {
+        qe: 0x1201,
+        mps: false,
+        after_mps: 58,
+        after_lps: 52,
+    },
+    Row {
+        qe: 0x1201,
+        mps: true,
+        after_mps: 59,
+        after_lps: 53,
+    },
+    Row {
+        qe: 0x1101,
+        mps: false,
+        after_mps: 60,
+        after_lps: 54,
+    },
+    Row {
+        qe: 0x1101,
+        mps: true,
+        after_mps: 61,
+        after_lps: 55,
+    },
+    Row {
+        qe: 0x0ac1,
+        mps: false,
+        after_mps: 62,
+        after_lps: 56,
+    },
+    Row {
+        qe: 0x0ac1,
+        mps: true,
+        after_mps: 63,
+        after_lps: 57,
+    },
+    Row {
+        qe: 0x09c1,
+        mps: false,
+        after_mps: 64,
+        after_lps: 58,
+    },
+    Row {
+        qe: 0x09c1,
+        mps: true,
+        after_mps: 65,
+        after_lps: 59,
+    },
+    Row {
+        qe: 0x08a1,
+        mps: false,
+        after_mps: 66,
+        after_lps: 60,
+    },
+    Row {
+        qe: 0x08a1,
+        mps: true,
+        after_mps: 67,
+        after_lps: 61,
+    },
+    Row {
+        qe: 0x0521,
+        mps: false,
+        after_mps: 68,
+        after_lps: 62,
+    },
+    Row {
+        qe: 0x0521,
+        mps: true,
+        after_mps: 69,
+        after_lps: 63,
+    },
+    Row {
+        qe: 0x0441,
+        mps: false,
+        after_mps: 70,
+        after_lps: 64,
+    },
+    Row {
+        qe: 0x0441,
+        mps: true,
+        after_mps: 71,
+        after_lps: 65,
+    },
+    Row {
+        qe: 0x02a1,
+        mps: false,
+        after_mps: 72,
+        after_lps: 66,
+    },
+    Row {
+        qe: 0x02a1,
+        mps: true,
+        after_mps: 73,
+        after_lps: 67,
+    },
+    Row {
+        qe: 0x0221,
+        mps: false,
+        after_mps: 74,
+        after_lps: 68,
+    },
+    Row {
+        qe: 0x0221,
+        mps: true,
+        after_mps: 75,
+        after_lps: 69,
+    },
+    Row {
+        qe: 0x0141,
+        mps: false,
+        after_mps: 76,
+        after_lps: 70,
+    },
+    Row {
+        qe: 0x0141,
+        mps: true,
+        after_mps: 77,
+        after_lps: 71,
+    },
+    Row {
+        qe: 0x0111,
+        mps: false,
+        after_mps: 78,
+        after_lps: 72,
+    },
+    Row {
+        qe: 0x0111,
+        mps: true,
+        after_mps: 79,
+        after_lps: 73,
+    },
+    Row {
+        qe: 0x0085,
+        mps: false,
+        after_mps: 80,
+        after_lps: 74,
+    },
+    Row {
+        qe: 0x0085,
+        mps: true,
+        after_mps: 81,
+        after_lps: 75,
+    },
+    Row {
+        qe: 0x0049,
+        mps: false,
+        after_mps: 82,
+        after_lps: 76,
+    },
+    Row {
+        qe: 0x0049,
+        mps: true,
+        after_mps: 83,
+        after_lps: 77,
+    },
+    Row {
+        qe: 0x0025,
+        mps: false,
+        after_mps: 84,
+        after_lps: 78,
+    },
+    Row {
+        qe: 0x0025,
+        mps: true,
+        after_mps: 85,
+        after_lps: 79,
+    },
+    Row {
+        qe: 0x0015,
+        mps: false,
+        after_mps: 86,
+        after_lps: 80,
+    },
+    Row {
+        qe: 0x0015,
+        mps: true,
+        after_mps: 87,
+        after_lps: 81,
+    },
+    Row {
+        qe: 0x0009,
+        mps: false,
+        after_mps: 88,
+        after_lps: 82,
+    },
+    Row {
+        qe: 0x0009,
+        mps: true,
+        after_mps: 89,
+        after_lps: 83,
+    },
+    Row {
+        qe: 0x0005,
+        mps: false,
+        after_mps: 90,
+        after_lps: 84,
+    },
+    Row {
+        qe: 0x0005,
+        mps: true,
+        after_mps: 91,
+        after_lps: 85,
+    },
+    Row {
+        qe: 0x0001,
+        mps: false,
+        after_mps: 90,
+        after_lps: 86,
+    },
+    Row {
+        qe: 0x0001,
+        mps: true,
+        after_mps: 91,
+        after_lps: 87,
+    },
+    Row {
+        qe: 0x5601,
+        mps: false,
+        after_mps: 92,
+        after_lps: 92,
+    },
+    Row {
+        qe: 0x5601,
+        mps: true,
+        after_mps: 93,
+        after_lps: 93,
+    },
+];
+
+/// The row of a state.
+pub(crate) fn row_of(state: u8) -> Row
+    requires { state < 94 }
+    ensures { IsRow state result }
+{
+    ROWS[state as usize]
+}
