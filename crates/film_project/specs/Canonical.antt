@@ -1,4 +1,4 @@
--- The canonical JSON of a project: all members are there, in the order of their names' bytes.
+-- The canonical JSON (RFC 8259) of a project: all members are there, in the order of their names' bytes.
 use Rattle.std.specs.Prelude.{ℕ, List, ◌∷◌, [], map, codes, slice_index_or}
 use Rattle.serde_json.specs.Data.{Data, number, unsigned, string, array, object, Members, member, no_members, put}
 use Rattle.serde_json.specs.View.{items_of}

@@ -37,7 +37,7 @@ abbrev pub begins_dots : List ℕ → ℕ → Bool
 begins_dots s i =
     begins_part s i && (slice_index s i == 46) && (slice_index s (i + 1) == 46) && ends_part s (i + 2)
 
--- YYYY-MM-DDThh:mm:ss
+-- YYYY-MM-DDThh:mm:ss, the date and time of RFC 3339, section 5.6, without its offset
 abbrev pub fits_date : ℕ → ℕ → Bool
 fits_date i b =
     if (i == 4) || (i == 7) then b == 45
@@ -45,7 +45,7 @@ fits_date i b =
     else if (i == 13) || (i == 16) then b == 58
     else is_digit b
 
--- the hyphens of a UUID stand at 8, 13, 18 and 23
+-- the text of a UUID (RFC 9562, section 4), in lower case: its hyphens stand at 8, 13, 18 and 23
 abbrev pub fits_uuid : ℕ → ℕ → Bool
 fits_uuid i b = if (i == 8) || (i == 13) || (i == 18) || (i == 23) then b == 45 else is_lower_hex b
 
