@@ -1,12 +1,11 @@
 -- Texts that keep a rule are ASCII.
-use Rattle.std.proofs.Common.{◌≡◌, ◌≢◌, ℕ, zero, suc, ◌+◌, ◌<◌, ◌≤◌, List, [], ◌∷◌, length, get_or, slice_index, Bool, true, false, not, ◌&&◌, ◌||◌, ◌==◌, nat_le, nat_lt, cond, bytes_eq, Option, Some, None, refl, sym, ap, ◌∙◌, subst, arith}
+use Rattle.std.proofs.Common.{◌≡◌, ◌≢◌, ℕ, zero, suc, ◌<◌, List, [], ◌∷◌, length, get_or, slice_index, Bool, true, false, not, ◌&&◌, ◌||◌, ◌==◌, nat_le, nat_lt, None, refl, arith}
 use Rattle.std.proofs.lemmas.Bool.{or_parts, and_parts}
 use Rattle.std.proofs.lemmas.Bool.Decides.{nat_tests}
-use Rattle.std.proofs.lemmas.Slice.Eq.{bytes_eq-Decides}
 use Rattle.std.proofs.lemmas.Str.{IsUtf8-from_ascii}
 use Rattle.std.proofs.lemmas.Str.Ascii.{IsAscii-from_reads}
 use Rattle.std.specs.Str.{IsAscii, IsUtf8}
-use Rattle.film_project.specs.Texts.{keeps, offends, offends_file, begins_dots, is_printable, is_name_byte, fits_date, fits_uuid, is_one_of, content_kinds, asset_kinds, word_place}
+use Rattle.film_project.specs.Texts.{keeps, offends_file, begins_dots, is_printable, is_name_byte, fits_date, fits_uuid, content_kinds, asset_kinds, word_place}
 use Rattle.film_project.specs.declared.texts.TextRule.{TextRule}
 use Rattle.film_project.specs.declared.texts.TextRule.TheVariants.{Title, ContentKind, Issued, Namespace, Id, AssetKind, File, AnyText}
 use Rattle.film_project.proofs.Ids.{word_passes}

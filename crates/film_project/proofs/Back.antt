@@ -1,16 +1,16 @@
 -- The canonical JSON of assets has no fault, and reads back.
-use Rattle.std.proofs.Common.{if◌then◌else◌, add-zero, ◌≡◌, ◌≢◌, ℕ, zero, suc, ◌+◌, ◌<◌, ◌≤◌, List, [], ◌∷◌, ◌++◌, map, length, get_or, slice_index_or, All, bytes_eq, Bool, true, false, ◌||◌, ◌&&◌, nat_le, Option, Some, None, option_map, is_none, refl, sym, ap, ◌∙◌, subst, arith, true≢false, codes}
+use Rattle.std.proofs.Common.{if◌then◌else◌, add-zero, ◌≡◌, ◌≢◌, ℕ, zero, suc, ◌+◌, ◌<◌, ◌≤◌, List, [], ◌∷◌, ◌++◌, map, length, get_or, slice_index_or, All, bytes_eq, Bool, true, false, ◌||◌, Option, Some, None, option_map, is_none, refl, sym, ap, ◌∙◌, subst, arith}
 use Rattle.std.specs.List.{AllPairs}
 use Rattle.std.specs.Option.{option_or}
 use Rattle.std.proofs.lemmas.Bool.Decides.{nat_tests}
 use Rattle.std.proofs.lemmas.Slice.Eq.{bytes_eq-Decides}
 use Rattle.serde_json.specs.Data.{Data}
 use Rattle.serde_json.specs.View.{items_of}
-use Rattle.film_project.specs.Accepts.{asset_in, asset_fault, assets_fault, find_asset}
+use Rattle.film_project.specs.Accepts.{asset_in, assets_fault, find_asset}
 use Rattle.film_project.specs.Canonical.{asset_data, id_at, no_asset}
 use Rattle.film_project.specs.Facts.{AssetFacts}
 use Rattle.film_project.specs.Members.{list_of, text_fault, number_fault, within}
-use Rattle.film_project.specs.Objects.{asset_members, object_fault, carries_sound}
+use Rattle.film_project.specs.Objects.{asset_members, object_fault}
 use Rattle.film_project.specs.Plain.{asset_facts}
 use Rattle.film_project.specs.Texts.{keeps, text_place, is_one_of}
 use Rattle.film_project.specs.declared.asset.Asset.{Asset}
@@ -18,7 +18,7 @@ use Rattle.film_project.specs.declared.asset.AssetKind.{AssetKind}
 use Rattle.film_project.specs.declared.asset.AssetKind.TheVariants.{Rgb48, Ppm, J2c, Pcm24}
 use Rattle.film_project.specs.declared.place.Place.TheVariants as place
 use Rattle.film_project.specs.declared.refusal.ProjectRefusal.{ProjectRefusal}
-use Rattle.film_project.specs.declared.refusal.ProjectRefusal.TheVariants.{BadText, OutOfRange}
+use Rattle.film_project.specs.declared.refusal.ProjectRefusal.TheVariants.{BadText}
 use Rattle.film_project.specs.declared.texts.TextRule.{TextRule}
 use Rattle.film_project.specs.declared.texts.TextRule.TheVariants as rule
 use Rattle.film_project.proofs.Ids.{same_itself}

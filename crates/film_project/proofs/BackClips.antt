@@ -1,19 +1,18 @@
 -- The canonical JSON of clips has no fault, and reads back.
-use Rattle.std.proofs.Common.{◌≡◌, ◌≢◌, ℕ, zero, suc, ◌+◌, ◌-◌, ◌<◌, ◌≤◌, List, [], ◌∷◌, map, length, get_or, slice_index_or, All, Bool, true, false, nat_lt, nat_le, Option, Some, None, refl, sym, ap, ◌∙◌, subst, arith, codes, cond}
+use Rattle.std.proofs.Common.{◌≡◌, ◌≢◌, ℕ, suc, ◌+◌, ◌-◌, ◌<◌, ◌≤◌, List, [], ◌∷◌, map, length, slice_index_or, All, Bool, true, false, nat_lt, nat_le, Option, Some, None, refl, sym, ap, ◌∙◌, subst, arith, codes}
 use Rattle.std.specs.List.{AllPairs}
 use Rattle.std.specs.Option.{option_or}
 use Rattle.std.proofs.lemmas.Bool.Decides.{nat_tests}
-use Rattle.serde_json.specs.Data.{Data}
 use Rattle.serde_json.specs.View.{items_of}
-use Rattle.film_project.specs.Accepts.{picture_in, picture_fault, sound_in, sound_fault, clip_asset, input_channels, found_fault}
+use Rattle.film_project.specs.Accepts.{picture_in, picture_fault, sound_in, sound_fault, input_channels, found_fault}
 use Rattle.film_project.specs.Canonical.{picture_data, gain_data, sound_data, id_at, no_asset}
-use Rattle.film_project.specs.Facts.{AssetFacts, PictureFacts, GainFacts, SoundFacts}
+use Rattle.film_project.specs.Facts.{AssetFacts, GainFacts}
 use Rattle.film_project.specs.Fits.{PictureFits, GainFits, SoundFits}
-use Rattle.film_project.specs.Members.{list_of, first_of, gain_of, gain_kind_fault, gain_range_fault, gains_fault, range_fault, text_fault}
-use Rattle.film_project.specs.Names.{item_name, member_name}
-use Rattle.film_project.specs.Objects.{picture_members, sound_members, object_fault, carries_sound}
+use Rattle.film_project.specs.Members.{list_of, first_of, gain_of, gain_kind_fault, gain_range_fault, gains_fault, range_fault}
+use Rattle.film_project.specs.Names.{member_name}
+use Rattle.film_project.specs.Objects.{carries_sound}
 use Rattle.film_project.specs.Plain.{asset_facts, picture_facts, gain_facts, sound_facts}
-use Rattle.film_project.specs.Texts.{keeps, offends, first_place}
+use Rattle.film_project.specs.Texts.{keeps, offends}
 use Rattle.film_project.specs.declared.asset.Asset.{Asset}
 use Rattle.film_project.specs.declared.asset.AssetKind.{AssetKind}
 use Rattle.film_project.specs.declared.asset.AssetKind.TheVariants.{Rgb48, Ppm, J2c, Pcm24}

@@ -1,5 +1,5 @@
 -- The canonical JSON of a project has no fault, and reads back.
-use Rattle.std.proofs.Common.{◌≡◌, ◌≢◌, ℕ, zero, suc, ◌+◌, ◌-◌, ◌<◌, ◌≤◌, ◌==◌, List, [], ◌∷◌, ◌++◌, map, length, get_or, slice_index, All, Bool, true, false, ◌||◌, not, nat_lt, nat_le, cond, Option, Some, None, Result, Ok, unwrap_or, refl, sym, ap, ◌∙◌, subst, arith, inl, codes}
+use Rattle.std.proofs.Common.{◌≡◌, ℕ, ◌+◌, ◌<◌, ◌≤◌, ◌==◌, List, [], ◌++◌, map, length, slice_index, All, Bool, true, false, ◌||◌, not, nat_lt, nat_le, cond, Option, Some, None, refl, sym, ap, ◌∙◌, subst, arith, inl}
 use Rattle.std.specs.Option.{option_or}
 use Rattle.std.proofs.lemmas.Bool.Decides.{nat_tests}
 use Rattle.std.proofs.lemmas.List.{length-map}
@@ -8,13 +8,13 @@ use Rattle.serde_json.specs.View.{items_of}
 use Rattle.uuid.specs.Text.{parsed, hyphenated_text, lower, hex_digit, nibble, digit_place, is_hyphen_place}
 use Rattle.uuid.proofs.TextLemmas.{by_index_length, by_index_at, nibble_small}
 use Rattle.uuid.proofs.RoundTrips.{parses_hyphenated}
-use Rattle.film_project.specs.Accepts.{project_fault, project_in, namespace_in, top_shape_fault, assets_fault, picture_fault, sound_fault, picture_in, sound_in, asset_in}
+use Rattle.film_project.specs.Accepts.{project_fault, project_in, namespace_in, assets_fault, picture_fault, sound_fault, picture_in, sound_in, asset_in}
 use Rattle.film_project.specs.Canonical.{project_data, asset_data, picture_data, sound_data}
 use Rattle.film_project.specs.Facts.{AssetFacts, PictureFacts, SoundFacts, ProjectFacts}
 use Rattle.film_project.specs.Members.{list_of, first_of, value_or, objects_fault, rate_fault, count_fault, is_frame_rate, members_fault, range_fault}
 use Rattle.film_project.specs.Objects.{title_members, format_members, list_members, project_members, object_fault}
 use Rattle.film_project.specs.Plain.{project_facts, asset_facts, picture_facts, sound_facts}
-use Rattle.film_project.specs.Texts.{keeps, offends, fits_uuid, is_lower_hex, text_place, first_place}
+use Rattle.film_project.specs.Texts.{keeps, offends, fits_uuid, is_lower_hex, first_place}
 use Rattle.film_project.specs.declared.project.Project.{Project}
 use Rattle.film_project.specs.declared.place.Place.TheVariants as place
 use Rattle.film_project.specs.declared.refusal.ProjectRefusal.{ProjectRefusal}

@@ -1,8 +1,8 @@
 -- What it means that a text keeps its rule.
-use Rattle.std.proofs.Common.{◌≡◌, ◌≢◌, ℕ, zero, suc, ◌+◌, ◌-◌, ◌<◌, ◌≤◌, List, length, Bool, true, false, cond, Option, Some, None, is_none, refl, sym, ap, ◌∙◌, arith, add-zero, true≢false, subst, nat_lt}
+use Rattle.std.proofs.Common.{◌≡◌, ℕ, zero, suc, ◌+◌, ◌<◌, ◌≤◌, List, length, Bool, true, false, cond, Option, Some, None, is_none, refl, sym, ◌∙◌, arith, add-zero, true≢false, subst, nat_lt}
 use Rattle.std.specs.Option.{option_or}
 use Rattle.std.proofs.lemmas.Bool.Decides.{nat_tests}
-use Rattle.film_project.specs.Texts.{first_place, text_place, keeps, offends, short_place, least_length, meaning_place}
+use Rattle.film_project.specs.Texts.{first_place, keeps, offends, short_place, least_length, meaning_place}
 use Rattle.film_project.specs.declared.texts.TextRule.{TextRule}
 
 no_place : (b : Bool) (i : ℕ) (r : Option ℕ) → cond b (Some i) r ≡ None → (b ≡ false) × (r ≡ None)

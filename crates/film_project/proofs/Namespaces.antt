@@ -1,10 +1,10 @@
 -- A text that keeps the rule of a namespace is a UUID.
-use Rattle.std.proofs.Common.{◌≡◌, ℕ, ◌+◌, ◌*◌, ◌<◌, ◌≤◌, List, All, length, get_or, slice_index, Bool, true, false, not, ◌&&◌, ◌||◌, ◌==◌, nat_le, Option, Some, refl, sym, ap, ◌∙◌, arith}
+use Rattle.std.proofs.Common.{◌≡◌, ℕ, ◌+◌, ◌*◌, ◌<◌, ◌≤◌, List, All, length, get_or, slice_index, Bool, true, false, not, ◌&&◌, ◌==◌, nat_le, Some, refl, ◌∙◌, arith}
 use Rattle.std.proofs.lemmas.Bool.{or_parts}
 use Rattle.std.proofs.lemmas.Bool.Decides.{nat_tests}
 use Rattle.uuid.specs.Text.{parsed, parsed_hyphenated, has_hyphens, digits_of, is_hex_digit, value_of, byte_of_digits, by_index, hyphen_place, is_hyphen_place}
 use Rattle.uuid.proofs.TextLemmas.{by_index_length, by_index_at, simple_some, hyphens_pass}
-use Rattle.film_project.specs.Texts.{keeps, offends, fits_uuid, is_lower_hex}
+use Rattle.film_project.specs.Texts.{keeps, fits_uuid, is_lower_hex}
 use Rattle.film_project.specs.declared.texts.TextRule.TheVariants.{Namespace}
 use Rattle.film_project.proofs.Kept.{IsKept, kept_parts, short_of}
 

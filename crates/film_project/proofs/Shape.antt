@@ -1,10 +1,10 @@
 -- The canonical JSON has no float, and nests five deep.
-use Rattle.std.proofs.Common.{◌≡◌, ℕ, ◌+◌, ◌≤◌, List, [], ◌∷◌, map, Bool, false, ◌||◌, max, refl, sym, ap, ◌∙◌, arith}
+use Rattle.std.proofs.Common.{◌≡◌, ℕ, ◌≤◌, List, [], ◌∷◌, map, Bool, false, ◌||◌, refl, arith}
 use Rattle.serde_json.specs.Data.{Data, depth, items_depth}
 use Rattle.serde_json.specs.View.{items_of}
 use Rattle.serde_json.specs.Written.{has_float, items_have_float}
 use Rattle.film_project.specs.Canonical.{asset_data, picture_data, gain_data, sound_data, project_data}
-use Rattle.film_project.specs.Facts.{AssetFacts, PictureFacts, GainFacts, SoundFacts, ProjectFacts}
+use Rattle.film_project.specs.Facts.{AssetFacts, SoundFacts, ProjectFacts}
 
 neither : (a b : Bool) → a ≡ false → b ≡ false → (a || b) ≡ false
 neither a b e h = rw (e, h)

@@ -1,27 +1,20 @@
 -- How long the canonical text is.
-use Rattle.std.proofs.Common.{◌≡◌, ◌≢◌, ℕ, zero, suc, ◌+◌, ◌*◌, ◌^◌, ◌<◌, ◌≤◌, ◌==◌, List, [], ◌∷◌, ◌++◌, map, length, length-append, get_or, slice_index, slice_index_or, Bool, true, false, not, ◌||◌, ◌&&◌, nat_lt, nat_le, cond, decimal, codes, refl, sym, ap, ◌∙◌, subst, arith}
-use Rattle.std.specs.List.{flat_map, list_all}
+use Rattle.std.proofs.Common.{◌≡◌, ℕ, suc, ◌+◌, ◌*◌, ◌^◌, ◌<◌, ◌≤◌, ◌==◌, List, [], ◌∷◌, ◌++◌, map, length, length-append, get_or, slice_index, Bool, true, false, ◌||◌, nat_lt, nat_le, cond, decimal, refl, sym, ap, subst, arith}
+use Rattle.std.specs.List.{flat_map}
 use Rattle.std.proofs.Math.Nat.{mul-suc}
-use Rattle.std.proofs.lemmas.Bool.{or_parts, and_parts}
+use Rattle.std.proofs.lemmas.Bool.{or_parts}
 use Rattle.std.proofs.lemmas.Bool.Decides.{nat_tests}
 use Rattle.std.proofs.lemmas.Fmt.{length-decimal-le}
-use Rattle.json.specs.Print.{escape_byte, escape_letter, escape, quoted}
-use Rattle.serde_json.specs.Data.{Data, Members, member, no_members}
+use Rattle.json.specs.Print.{escape_byte, quoted}
+use Rattle.serde_json.specs.Data.{Data, Members, member}
 use Rattle.serde_json.specs.View.{items_of}
 use Rattle.serde_json.specs.Written.{compact_text, items_text, members_text, comma_if}
 use Rattle.uuid.specs.Text.{hyphenated_text, lower}
 use Rattle.uuid.proofs.TextLemmas.{by_index_length}
-use Rattle.film_project.specs.Canonical.{asset_data, picture_data, gain_data, sound_data, project_data, kind_word, id_at, no_asset}
-use Rattle.film_project.specs.Facts.{AssetFacts, PictureFacts, GainFacts, SoundFacts, ProjectFacts}
-use Rattle.film_project.specs.Plain.{asset_facts, picture_facts, gain_facts, sound_facts, project_facts}
-use Rattle.film_project.specs.Texts.{keeps, offends, is_name_byte, is_one_of, content_kinds}
-use Rattle.film_project.specs.declared.asset.Asset.{Asset}
+use Rattle.film_project.specs.Canonical.{kind_word}
+use Rattle.film_project.specs.Texts.{keeps, is_name_byte, is_one_of, content_kinds}
 use Rattle.film_project.specs.declared.asset.AssetKind.{AssetKind}
 use Rattle.film_project.specs.declared.asset.AssetKind.TheVariants.{Rgb48, Ppm, J2c, Pcm24}
-use Rattle.film_project.specs.declared.clip.Gain.{Gain}
-use Rattle.film_project.specs.declared.clip.PictureClip.{PictureClip}
-use Rattle.film_project.specs.declared.clip.SoundClip.{SoundClip}
-use Rattle.film_project.specs.declared.project.Project.{Project}
 use Rattle.film_project.specs.declared.texts.TextRule.TheVariants as rule
 use Rattle.film_project.proofs.Ascii.{known, not_false, path_at}
 use Rattle.film_project.proofs.Ids.{word_passes}

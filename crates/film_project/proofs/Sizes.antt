@@ -1,15 +1,13 @@
 -- How long the canonical text of a project is.
-use Rattle.std.proofs.Common.{◌≡◌, ℕ, zero, suc, ◌+◌, ◌*◌, ◌^◌, ◌<◌, ◌≤◌, List, [], ◌∷◌, ◌++◌, map, length, length-append, get_or, slice_index, slice_index_or, Bool, true, false, ◌||◌, ◌&&◌, ◌==◌, decimal, codes, refl, sym, ap, ◌∙◌, subst, arith, lit<}
+use Rattle.std.proofs.Common.{◌≡◌, ℕ, zero, suc, ◌+◌, ◌^◌, ◌<◌, ◌≤◌, List, [], ◌∷◌, ◌++◌, map, length, length-append, slice_index, true, false, ◌==◌, decimal, codes, refl, arith, lit<}
 use Rattle.std.specs.List.{list_all}
 use Rattle.std.proofs.lemmas.Bool.{and_parts}
 use Rattle.std.proofs.lemmas.Bool.Decides.{nat_tests}
 use Rattle.json.specs.Print.{quoted}
-use Rattle.serde_json.specs.Data.{Data, Members, member, no_members, string}
-use Rattle.serde_json.specs.View.{items_of}
-use Rattle.serde_json.specs.Written.{compact_text, items_text, members_text}
+use Rattle.serde_json.specs.Data.{member, no_members, string}
+use Rattle.serde_json.specs.Written.{compact_text, members_text}
 use Rattle.uuid.specs.Text.{hyphenated_text, lower}
-use Rattle.film_project.specs.Canonical.{whole, list, asset_data, picture_data, gain_data, sound_data, project_data, kind_word, id_at, no_asset}
-use Rattle.film_project.specs.Facts.{AssetFacts}
+use Rattle.film_project.specs.Canonical.{whole, list, asset_data, picture_data, gain_data, sound_data, project_data, kind_word, id_at}
 use Rattle.film_project.specs.Members.{is_frame_rate}
 use Rattle.film_project.specs.Plain.{asset_facts, picture_facts, gain_facts, sound_facts, project_facts}
 use Rattle.film_project.specs.Texts.{is_name_byte}

@@ -1,5 +1,5 @@
 -- Steps of walks over lists and places.
-use Rattle.std.proofs.Common.{String, Global, string_bytes, ◌++◌, append_assoc, append-nil, ◌≡◌, ℕ, zero, suc, ◌+◌, ◌-◌, ◌<◌, ◌≤◌, List, [], ◌∷◌, Bool, true, false, Option, Some, None, refl, ap, sym, ◌∙◌, arith, sub-one, map, option_map, length, drop, get_or}
+use Rattle.std.proofs.Common.{String, Global, string_bytes, ◌++◌, append_assoc, append-nil, ◌≡◌, ℕ, suc, ◌+◌, ◌-◌, ◌<◌, List, [], ◌∷◌, Bool, true, false, Option, Some, None, refl, ap, sym, ◌∙◌, arith, map, length, drop, get_or}
 use Rattle.film_project.specs.Texts.{first_place}
 use Rattle.std.specs.Option.{option_or}
 use Rattle.std.proofs.lemmas.List.{map-append, drop_more}
@@ -9,7 +9,7 @@ use Rattle.film_project.specs.Objects.{unknown_fault}
 use Rattle.film_project.specs.declared.place.Place.{Place}
 use Rattle.film_project.specs.declared.refusal.ProjectRefusal.TheVariants.{UnknownMember}
 use Rattle.film_project.specs.declared.refusal.ProjectRefusal.{ProjectRefusal}
-use Rattle.serde_json.specs.Data.{Data, Items, no_items, item}
+use Rattle.serde_json.specs.Data.{Data}
 use Rattle.serde_json.specs.View.{view, items_view, members_view}
 use Rattle.serde_json.specs.declared.value.Value.{Value}
 

@@ -1,5 +1,5 @@
 -- The names of objects, members and items, as a refusal prints them.
-use Rattle.std.specs.Prelude.{ℕ, List, [], ◌∷◌, ◌++◌, codes, decimal}
+use Rattle.std.specs.Prelude.{ℕ, List, [], ◌++◌, codes, decimal}
 use Rattle.film_project.specs.declared.place.Place.{Place}
 use Rattle.film_project.specs.declared.place.Place.TheVariants.{Project, Asset, Picture, Sound}
 

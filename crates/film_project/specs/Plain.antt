@@ -1,5 +1,5 @@
 -- The plain values of the types, which keep their rules beside them.
-use Rattle.std.specs.Prelude.{List, map}
+use Rattle.std.specs.Prelude.{map}
 use Rattle.film_project.specs.Facts.{AssetFacts, PictureFacts, GainFacts, SoundFacts, ProjectFacts}
 use Rattle.film_project.specs.declared.asset.Asset.{Asset}
 use Rattle.film_project.specs.declared.clip.Gain.{Gain}

@@ -1,9 +1,9 @@
-use Rattle.std.proofs.Common.{◌∙◌, map, arith, length}
+use Rattle.std.proofs.Common.{◌∙◌, map, arith}
 use Rattle.std.proofs.lemmas.List.{at_drop_all}
 use Rattle.film_project.specs.Texts as texts
 use Rattle.film_project.proofs.Ids.{is_one_of-none}
 use Rattle.film_project.specs.declared.asset.Asset.{Asset}
-use Rattle.std.proofs.Common.{List, ℕ, Bool}
+use Rattle.std.proofs.Common.{List, Bool}
 use Rattle.film_project.proofs.assets.has_id.Goals as goal
 
 pub returns-clause-absent : goal.returns-clause-absent

@@ -1,4 +1,3 @@
-use Rattle.std.proofs.Common.{◌≡◌, ◌≢◌, All, sym, ap, ◌∙◌, subst}
 use Rattle.film_project.proofs.assets.read_asset.Goals as goal
 
 pub returns-clause-new : goal.returns-clause-new

@@ -1,7 +1,6 @@
-use Rattle.std.proofs.Common.{◌≡◌, ◌<◌, length, Ok, sym, ap, ◌∙◌, subst}
+use Rattle.std.proofs.Common.{ap, ◌∙◌}
 use Rattle.serde_json.specs.View.{view}
 use Rattle.film_project.specs.Accepts.{accepts}
-use Rattle.film_project.specs.Plain.{project_facts}
 use Rattle.film_project.proofs.Printed.{printed, printed_short, printed_back}
 use Rattle.film_project.proofs.canonical.project_text.Goals as goal
 

@@ -1,4 +1,4 @@
-use Rattle.std.proofs.Common.{◌≡◌, ap, sym, ◌∙◌, option_map, Some, map}
+use Rattle.std.proofs.Common.{ap, sym, ◌∙◌, option_map, Some, map}
 use Rattle.serde_json.specs.View.{view}
 use Rattle.film_project.specs.Members.{list_of}
 use Rattle.film_project.proofs.Walks.{list_of-items_view}

@@ -1,4 +1,4 @@
-use Rattle.std.proofs.Common.{◌≡◌, ◌<◌, All, Some, sym, ap, ◌∙◌, subst, true≢false, unwrap_or, []}
+use Rattle.std.proofs.Common.{◌≡◌, ◌<◌, All, sym, ap, ◌∙◌, subst, true≢false, unwrap_or, []}
 use Rattle.film_project.proofs.Namespaces.{namespace-parsed, namespace-small, namespace_bytes}
 use Rattle.film_project.proofs.read.namespace_of.Goals as goal
 

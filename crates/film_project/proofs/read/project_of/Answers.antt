@@ -1,4 +1,4 @@
-use Rattle.std.proofs.Common.{◌≡◌, true, All, sym, ap, ◌∙◌, subst}
+use Rattle.std.proofs.Common.{◌≡◌, true, All, sym, ◌∙◌, subst}
 use Rattle.film_project.specs.Fits.{PictureFits, SoundFits}
 use Rattle.film_project.specs.Texts.{keeps}
 use Rattle.film_project.specs.declared.texts.TextRule.TheVariants as rule

@@ -1,4 +1,4 @@
-use Rattle.std.proofs.Common.{◌≡◌, sym, ◌∙◌, arith, true≢false}
+use Rattle.std.proofs.Common.{sym, ◌∙◌, arith, true≢false}
 use Rattle.serde_json.specs.View.{view}
 use Rattle.film_project.specs.Accepts.{project_fault, project_in}
 use Rattle.film_project.specs.Plain.{project_facts}
