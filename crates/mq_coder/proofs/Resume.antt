@@ -275,3 +275,14 @@ continues-later ds later en p =
           (whole-begins (coded ds).registers.bytes (coded_from (coded ds) later).registers.bytes
           (coded-begins (coded ds) later (ready-coded ds)));
     }
+
+-- ---- one decision more
+
+coded_from-push : (e : Encoder) (ds : List Decision) (d : Decision) → coded_from e (ds ++ d ∷ []) ≡ coded_one (coded_from e ds) d
+unfolding coded_from
+coded_from-push e [] d = refl
+coded_from-push e (x ∷ ds) d = coded_from-push (coded_one e x) ds d
+
+pub coded-push : (ds : List Decision) (d : Decision) → coded (ds ++ d ∷ []) ≡ coded_one (coded ds) d
+unfolding coded
+coded-push ds d = coded_from-push start ds d

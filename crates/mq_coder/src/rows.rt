@@ -14,9 +14,6 @@ pub(crate) struct Row {
     pub(crate) after_lps: u8,
 }
 
-/// The number of states.
-pub(crate) const STATES: u8 = 94;
-
 /// The states of the contexts 0 to 18 at the start (Table D.7).
 pub(crate) const START: [u8; 19] = [8, 0, 0, 0, 0, 0, 0, 0, 0, 0, 0, 0, 0, 0, 0, 0, 0, 6, 92];
 
