@@ -8,3 +8,6 @@ mod timeline;
 
 pub use cell::{Cell, is_repeat};
 pub use timeline::cells;
+
+#[cfg(test)]
+mod tests;
