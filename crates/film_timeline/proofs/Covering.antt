@@ -1,5 +1,5 @@
 -- The last clip that covers a frame: what it covers, and how it changes with one more clip.
-use Rattle.std.proofs.Common.{◌≡◌, ℕ, Bool, true, false, cond, List, [], ◌∷◌, ◌++◌, map, take, get_or, ◌+◌, ◌<◌, ◌≤◌, length, reverse, refl, ap, sym, ◌∙◌, IsTrue, Option, Some, None, find, arith}
+use Rattle.std.proofs.Common.{◌≡◌, ℕ, Bool, true, false, cond, List, [], ◌∷◌, ◌++◌, map, take, get_or, ◌+◌, ◌<◌, ◌≤◌, length, reverse, refl, ap, sym, ◌∙◌, IsTrue, Option, Some, find, arith}
 use Rattle.std.proofs.lemmas.List.{reverse-append, take_more}
 use Rattle.std.proofs.lemmas.List.FromFn.{map-range_with_len_more}
 use Rattle.std.specs.List.{range_with_len}

@@ -1,5 +1,5 @@
 -- A clip that covers the frame begins there or before, so that the frame's index is in its range.
-use Rattle.std.proofs.Common.{◌≤◌, ◌<◌, ◌+◌, ◌-◌, ◌*◌, ◌/◌, ◌^◌, arith}
+use Rattle.std.proofs.Common.{◌-◌, arith}
 use Rattle.std.proofs.Math.Nat.{div-le_self}
 use Rattle.film_timeline.proofs.Covering.{within}
 use Rattle.film_timeline.proofs.clip.cell_of.Goals as goal

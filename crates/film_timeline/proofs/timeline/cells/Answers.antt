@@ -1,5 +1,5 @@
 -- The clip that is shown is the last one that covers the frame: it was looked up there, or before the next change.
-use Rattle.std.proofs.Common.{◌≡◌, ℕ, ◌<◌, ◌≤◌, ◌+◌, arith, sym, ◌∙◌}
+use Rattle.std.proofs.Common.{◌≡◌, arith, sym, ◌∙◌}
 use Rattle.film_timeline.proofs.Covering.{last_covers, next_cell, all_cells}
 use Rattle.film_timeline.specs.Timeline.{last_covering}
 use Rattle.film_timeline.proofs.timeline.cells.Goals as goal
