@@ -1,0 +1,13 @@
+//! The timeline: what is shown in each frame of a project, and which frames repeat the one before.
+#![tactic(auto)]
+
+mod cell;
+mod change;
+mod clip;
+mod timeline;
+
+pub use cell::{Cell, is_repeat};
+pub use timeline::cells;
+
+#[cfg(test)]
+mod tests;
