@@ -2,6 +2,7 @@
 use Rattle.std.specs.Prelude.{ℕ, List, ◌∷◌, [], map, codes, slice_index_or}
 use Rattle.serde_json.specs.Data.{Data, number, unsigned, string, array, object, Members, member, no_members, put}
 use Rattle.serde_json.specs.View.{items_of}
+use Rattle.serde_json.specs.Written.{compact_text}
 use Rattle.uuid.specs.Text.{hyphenated_text, lower}
 use Rattle.film_project.specs.Facts.{AssetFacts, PictureFacts, GainFacts, SoundFacts, ProjectFacts}
 use Rattle.film_project.specs.declared.asset.AssetKind.{AssetKind}
@@ -67,6 +68,10 @@ project_data p =
     (member (codes "sound") (list (map (sound_data p.assets) p.sound))
     (member (codes "title") (string p.title)
     (member (codes "width") (whole p.width) no_members))))))))))))))
+
+-- the text of a project
+abbrev pub canonical_text : ProjectFacts → List ℕ
+canonical_text p = compact_text (project_data p)
 
 -- the members as they are put in, in three parts
 abbrev pub with_numbers : ProjectFacts → Members → Members

@@ -3,8 +3,6 @@ pub mod Answers
 pub mod Canonical
 pub mod Clips
 pub mod Facts
-pub mod First
-pub mod FirstMembers
 pub mod Fits
 pub mod Gains
 pub mod Members

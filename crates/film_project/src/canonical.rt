@@ -5,7 +5,6 @@ ghost use Rattle.film_project.specs.Plain.{asset_facts, gain_facts, picture_fact
 ghost use Rattle.film_project.specs.Texts.{keeps};
 ghost use Rattle.film_project.specs.declared.texts.TextRule.TheVariants.{AnyText};
 ghost use Rattle.serde_json.specs.Data.{string};
-ghost use Rattle.serde_json.specs.Written.{compact_text};
 ghost use Rattle.serde_json.specs.View.{view, members_view};
 ghost use Rattle.uuid.specs.Text.{hyphenated_text, lower};
 
@@ -23,7 +22,7 @@ use uuid::Uuid;
 /// their names' bytes.
 pub fn project_text(alloc: Global, project: &Project) -> Result<Bytes, NoMemory>
     ensures canonical { IfOk result
-        (λ text. text ≡ compact_text (spec.project_data (project_facts project.now))) }
+        (λ text. text ≡ spec.canonical_text (project_facts project.now)) }
     ensures reads_back { IfOk result
         (λ text. accepts text ≡ Ok (project_facts project.now)) }
     ensures short { IfOk result (λ text. length text < 4400000) }

@@ -1,4 +1,5 @@
-ghost use Rattle.std.specs.Prelude.{◌≡◌, IsTrue};
+ghost use Rattle.std.specs.Prelude.{◌≡◌, IsTrue, map, option_map};
+ghost use Rattle.film_project.specs.Plain.{picture_facts};
 ghost use Rattle.std.specs.Option.{ForSome, option_map_or};
 ghost use Rattle.film_timeline.specs.declared.cell.Cell.TheVariants.{Black};
 ghost use Rattle.film_timeline.specs.Timeline.{covers, cell_in, last_covering};
@@ -8,7 +9,7 @@ use film_project::PictureClip;
 
 /// Whether the clip shows a frame of its asset in frame `f`.
 pub fn covers_frame(clip: &PictureClip, f: u32) -> bool
-    ensures { result ≡ covers clip.now f }
+    ensures { result ≡ covers (picture_facts clip.now) f }
 {
     clip.at <= f && f < clip.at + clip.count
 }
@@ -16,7 +17,7 @@ pub fn covers_frame(clip: &PictureClip, f: u32) -> bool
 /// The last of these clips that covers frame `f`.
 #[tactic(auto, unfolding(crate::specs::Timeline::last_covering))]
 pub fn find_last(clips: &[PictureClip], f: u32) -> Option<PictureClip>
-    ensures { result ≡ last_covering clips.now f }
+    ensures { option_map picture_facts result ≡ last_covering (map picture_facts clips.now) f }
 {
     clips
         .iter()
@@ -27,8 +28,8 @@ pub fn find_last(clips: &[PictureClip], f: u32) -> Option<PictureClip>
 
 /// What the clip shows in frame `f`, which it covers, or black where there is no clip.
 pub fn cell_of(shown: Option<PictureClip>, f: u32) -> Cell
-    requires { ForSome shown (λ clip. IsTrue (covers clip f)) }
-    ensures { result ≡ option_map_or (λ clip. cell_in clip f) shown Black }
+    requires { ForSome shown (λ clip. IsTrue (covers (picture_facts clip) f)) }
+    ensures { result ≡ option_map_or (λ clip. cell_in clip f) (option_map picture_facts shown) Black }
 {
     match shown {
         Some(clip) => Cell::Frame {

@@ -4,9 +4,11 @@
 mod cell;
 mod change;
 mod clip;
+mod count;
 mod timeline;
 
 pub use cell::{Cell, is_repeat};
+pub use count::{black_count, fresh_count};
 pub use timeline::cells;
 
 #[cfg(test)]

@@ -1,4 +1,5 @@
 ghost use Rattle.std.specs.Prelude.{◌≡◌, IfOk};
+ghost use Rattle.film_project.specs.Plain.{project_facts};
 ghost use Rattle.film_timeline.specs.Timeline.{cells_of};
 
 use crate::cell::Cell;
@@ -11,7 +12,7 @@ use std::alloc::Global;
 /// What is shown in each frame of the project: of the clips that cover the frame the last one of
 /// the list decides, and a frame without a clip is black.
 pub fn cells(alloc: Global, project: &Project) -> Result<List<Cell>, NoMemory>
-    ensures { IfOk result (λ cells. cells ≡ cells_of project.now) }
+    ensures { IfOk result (λ cells. cells ≡ cells_of (project_facts project.now)) }
 {
     let clips = project.picture.as_slice();
     let mut cells = Vec::with_capacity(alloc, project.frames as usize)?;

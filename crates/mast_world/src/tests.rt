@@ -1,7 +1,8 @@
 //! The forms in memory, each call once, and one that fails.
 
 use crate::{
-    Bytes, Failed, FileId, List, MemFile, MemSink, MemSource, MemVolume, Sink, Source, Volume,
+    Bytes, Failed, FileId, List, MemFile, MemSink, MemSource, MemVolume, NoMemory, Sink, Source,
+    StoreFault, Volume,
 };
 use std::alloc::{AllocError, Global};
 use std::test::Fail;
@@ -53,5 +54,17 @@ fn a_sink_appends(rt: HostRuntime) -> Result<(), Fail> {
     assert_eq!(rt; sink.put(b"cd"), Err(Failed));
     assert_eq!(rt; sink.put(b"ef"), Ok(()));
     assert_eq!(rt; sink.written(), b"abef".as_slice());
+    Ok(())
+}
+
+#[test]
+fn faults_are_printed(rt: HostRuntime) -> Result<(), Fail> {
+    let alloc = rt.alloc();
+    assert_eq!(rt; format!(in alloc; "{}", Failed)?.as_str(), "device fault");
+    assert_eq!(rt; format!(in alloc; "{}", NoMemory)?.as_str(), "no memory");
+    assert_eq!(rt;
+        format!(in alloc; "{}", StoreFault)?.as_str(),
+        "store fault"
+    );
     Ok(())
 }

@@ -1,0 +1,11 @@
+//! The plan of a run: what is shown in each frame, the limits of a frame's size, the package's
+//! identifiers and the job's text.
+#![tactic(auto)]
+
+mod ids;
+mod plan;
+mod refusal;
+
+pub use ids::Ids;
+pub use plan::{Plan, plan};
+pub use refusal::PlanRefusal;
