@@ -3,9 +3,11 @@
 #![tactic(auto)]
 
 mod ids;
-mod plan;
+mod job;
+mod planning;
 mod refusal;
 
 pub use ids::Ids;
-pub use plan::{Plan, plan};
+pub use job::Plan;
+pub use planning::plan;
 pub use refusal::PlanRefusal;

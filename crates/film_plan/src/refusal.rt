@@ -5,11 +5,7 @@ use std::alloc::{AllocError, AllocFailed};
 #[derive(Debug, Drop)]
 pub enum PlanRefusal {
     /// The asset of this id has fewer bytes than its clips need.
-    InputShort {
-        asset: Bytes,
-        size: u64,
-        need: u64,
-    },
+    InputShort { asset: Bytes, size: u64, need: u64 },
     /// Memory ran out.
     NoMemory,
 }

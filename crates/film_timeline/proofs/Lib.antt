@@ -1,1 +1,2 @@
-pub mod Covering
+mod Covering
+pub mod Fresh

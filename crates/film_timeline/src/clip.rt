@@ -1,8 +1,8 @@
-ghost use Rattle.std.specs.Prelude.{◌≡◌, IsTrue, map, option_map};
+ghost use Rattle.std.specs.Prelude.{◌≡◌, IsTrue, option_map, find, reverse};
 ghost use Rattle.film_project.specs.Plain.{picture_facts};
 ghost use Rattle.std.specs.Option.{ForSome, option_map_or};
 ghost use Rattle.film_timeline.specs.declared.cell.Cell.TheVariants.{Black};
-ghost use Rattle.film_timeline.specs.Timeline.{covers, cell_in, last_covering};
+ghost use Rattle.film_timeline.specs.Timeline.{covers, cell_in};
 
 use crate::cell::Cell;
 use film_project::PictureClip;
@@ -15,9 +15,8 @@ pub fn covers_frame(clip: &PictureClip, f: u32) -> bool
 }
 
 /// The last of these clips that covers frame `f`.
-#[tactic(auto, unfolding(crate::specs::Timeline::last_covering))]
 pub fn find_last(clips: &[PictureClip], f: u32) -> Option<PictureClip>
-    ensures { option_map picture_facts result ≡ last_covering (map picture_facts clips.now) f }
+    ensures { result ≡ find (λ clip. covers (picture_facts clip) f) (reverse clips.now) }
 {
     clips
         .iter()

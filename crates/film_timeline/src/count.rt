@@ -22,11 +22,5 @@ pub fn black_count(cells: &[Cell]) -> u32
     requires { length cells.now < 2 ^ 32 }
     ensures { result ≡ length (filter is_black cells.now) }
 {
-    let mut count = 0;
-    for cell in cells {
-        if *cell == Cell::Black {
-            count += 1;
-        }
-    }
-    count
+    cells.iter().filter(|cell| **cell == Cell::Black).count() as u32
 }

@@ -1,9 +1,10 @@
 -- Why no package was made.
-use Rattle.std.specs.Prelude.{◌≡◌, ℕ, ◌<◌, List, length, take, Option, Some, None, option_map, IsSome}
+use Rattle.std.specs.Prelude.{◌≡◌, ℕ, ◌<◌, List, length, take, slice_get, Option, Some, None, option_map, IsSome}
 use Rattle.film_plan.specs.Plan.{limits_of}
 use Rattle.film_project.specs.Facts.{ProjectFacts}
-use Rattle.film_timeline.specs.Timeline.{cells_of, is_fresh}
+use Rattle.film_timeline.specs.Timeline.{cells_of, IsFresh}
 use Rattle.film_timeline.specs.declared.cell.Cell.TheVariants.{Frame}
+use Rattle.mast_world.specs.declared.volume.FileId.{FileId}
 use Rattle.make_engine.specs.Package.{Files, asset_at, frame_name, values_of}
 use Rattle.make_engine.specs.declared.outcome.BadWhy.{BadWhy}
 use Rattle.make_engine.specs.declared.outcome.BadWhy.TheVariants.{Limit}
@@ -13,7 +14,7 @@ pub record ShowsFile (tells : Type 0) (files : Files) (project : ProjectFacts) (
   pub asset : ℕ
   pub index : ℕ
   pub cell : slice_get (cells_of project) f ≡ Some (Frame asset index)
-  pub fresh : IsTrue (is_fresh (cells_of project) f)
+  pub fresh : IsFresh (cells_of project) f
   pub named : name ≡ frame_name (asset_at project asset) index
   pub earlier : tells → IsSome (values_of files project (take f (cells_of project)))
 
@@ -31,3 +32,8 @@ pub record IsBadFrame (tells : Type 0) (files : Files) (project : ProjectFacts) 
   pub limit : why ≡ Limit 0 got
   pub above : (limits_of project).frame < got
   pub size : tells → option_map length (files name) ≡ Some got
+
+-- nothing was written: what reads give and what was put in are as before
+pub record IsUnwritten (reads_before reads_now : FileId → List ℕ) (put_before put_now : FileId → ℕ) : Type 0 where
+  pub reads : (file : FileId) → reads_now file ≡ reads_before file
+  pub put : (file : FileId) → put_now file ≡ put_before file

@@ -1,15 +1,12 @@
-ghost use Rattle.std.specs.Prelude.{◌≡◌, ℕ, List, Some, None, Err, IfOk, length};
-ghost use Rattle.film_plan.specs.Needs.{first_short, Short};
+ghost use Rattle.std.specs.Prelude.{◌≡◌};
 ghost use Rattle.film_plan.specs.Plan.{ids_of, job_of, limits_of};
 ghost use Rattle.film_project.specs.Plain.{project_facts};
 ghost use Rattle.film_timeline.specs.Timeline.{cells_of};
 
 use crate::ids::Ids;
-use crate::refusal::PlanRefusal;
 use film_project::Project;
 use film_timeline::Cell;
 use mast_world::{Bytes, Limits, List};
-use std::alloc::Global;
 
 /// A project with all that follows from it before a frame is read.
 #[derive(Debug, Drop)]
@@ -26,17 +23,4 @@ pub struct Plan {
     pub ghost limits_are: { limits ≡ limits_of (project_facts project) },
     pub ghost ids_are: { ids ≡ ids_of (project_facts project) },
     pub ghost job_text_is: { job_text ≡ job_of (project_facts project) },
-}
-
-/// The plan of a project whose assets have these sizes, in their order, in bytes. Only those of
-/// kinds that lie in a single file are looked at.
-pub fn plan(alloc: Global, project: &Project, sizes: &[u64]) -> Result<Plan, PlanRefusal>
-    requires { length sizes.now ≡ length project.now.assets }
-
-    ensures planned { IfOk result (λ plan. project_facts plan.project ≡ project_facts project.now) }
-    ensures enough { IfOk result (λ _. first_short (project_facts project.now) sizes.now ≡ None) }
-    ensures short { (asset : List ℕ) (size need : ℕ) → result ≡ Err (PlanRefusal.InputShort asset size need)
-        → first_short (project_facts project.now) sizes.now ≡ Some (record { asset = asset; size = size; need = need }) }
-{
-    Err(PlanRefusal::NoMemory)
 }
