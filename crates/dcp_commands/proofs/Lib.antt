@@ -1,2 +1,2 @@
-pub mod Frames
-pub mod Outcomes
+mod Making
+mod Planning

@@ -1,6 +1,5 @@
-pub mod Engine
-pub mod Item
+pub mod Inputs
 pub mod Line
 pub mod Make
-pub mod Package
+pub mod Plan
 pub mod Words

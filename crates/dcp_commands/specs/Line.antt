@@ -1,41 +1,50 @@
 -- What is printed, and how a program ends.
 use Rattle.std.specs.Prelude.{◌≡◌, ◌⊎◌, ℕ, codes, List, [], ◌∷◌, ◌++◌, take}
 use Rattle.std.specs.Fmt.{decimal}
-use Rattle.dcp_commands.specs.declared.status.BadWhy.{BadWhy}
-use Rattle.dcp_commands.specs.declared.status.BadWhy.TheVariants.{Limit}
+use Rattle.film_project.specs.Refusals.{refusal_line}
+use Rattle.make_engine.specs.declared.outcome.BadWhy.{BadWhy}
+use Rattle.make_engine.specs.declared.outcome.BadWhy.TheVariants.{Limit}
 use Rattle.dcp_commands.specs.declared.status.Status.{Status}
-use Rattle.dcp_commands.specs.declared.status.Status.TheVariants.{Done, Usage, InputMissing, SourceFault, StoreFault, SinkFault, NoMemory, BadFrame, Unbuilt}
+use Rattle.dcp_commands.specs.declared.status.Status.TheVariants.{Done, Usage, ProjectRefused, InputMissing, InputShort, SourceFault, StoreFault, SinkFault, NoMemory, BadFrame, Unbuilt}
 
 -- how a frame's input breaks its form
 abbrev pub why_text : BadWhy → List ℕ
 why_text (Limit part got) = codes "limit " ++ (decimal part ++ (codes " " ++ decimal got))
 
--- the text of a status; that of `Done` has the number of frames
-abbrev pub status_text : ℕ → Status → List ℕ
-status_text frames Done = codes "done: " ++ decimal frames ++ codes " frames, 0 kept"
-status_text frames Usage = codes "usage: dcp make|plan|frame|read|trial"
-status_text frames (InputMissing name) = codes "input missing: " ++ name
-status_text frames SourceFault = codes "source fault"
-status_text frames StoreFault = codes "store fault"
-status_text frames SinkFault = codes "sink fault"
-status_text frames NoMemory = codes "no memory"
-status_text frames (BadFrame frame why) = codes "bad frame: " ++ (decimal frame ++ (codes " " ++ why_text why))
-status_text frames Unbuilt = codes "unbuilt"
+-- what `make` prints of a package
+abbrev pub done_text : ℕ → ℕ → List ℕ
+done_text frames kept = codes "done: " ++ (decimal frames ++ (codes " frames, " ++ (decimal kept ++ codes " kept")))
 
-abbrev pub line_of : ℕ → Status → List ℕ
-line_of frames status = status_text frames status ++ 10 ∷ []
+-- the text of a status; `done` is what the command prints where it is done
+abbrev pub status_text : List ℕ → Status → List ℕ
+status_text done Done = done
+status_text done Usage = codes "usage: dcp make|plan|frame|read|trial"
+status_text done (ProjectRefused refusal) = codes "project refused: " ++ refusal_line refusal
+status_text done (InputMissing name) = codes "input missing: " ++ name
+status_text done (InputShort asset size need) = codes "input short: " ++ (asset ++ (codes " has " ++ (decimal size ++ (codes " needs " ++ decimal need))))
+status_text done SourceFault = codes "source fault"
+status_text done StoreFault = codes "store fault"
+status_text done SinkFault = codes "sink fault"
+status_text done NoMemory = codes "no memory"
+status_text done (BadFrame frame why) = codes "bad frame: " ++ (decimal frame ++ (codes " " ++ why_text why))
+status_text done Unbuilt = codes "unbuilt"
+
+abbrev pub line_of : List ℕ → Status → List ℕ
+line_of done status = status_text done status ++ 10 ∷ []
 
 -- what was printed under a status: its line; some front of a line where the sink failed; the line or nothing for want of memory
-abbrev pub IsPrinted : ℕ → Status → List ℕ → List ℕ → Type 0
-IsPrinted frames SinkFault before now = (line : List ℕ) × (n : ℕ) × (now ≡ before ++ take n line)
-IsPrinted frames NoMemory before now = (now ≡ before) ⊎ (now ≡ before ++ line_of frames NoMemory)
-IsPrinted frames status before now = now ≡ before ++ line_of frames status
+abbrev pub IsPrinted : List ℕ → Status → List ℕ → List ℕ → Type 0
+IsPrinted done SinkFault before now = (line : List ℕ) × (n : ℕ) × (now ≡ before ++ take n line)
+IsPrinted done NoMemory before now = (now ≡ before) ⊎ (now ≡ before ++ line_of done NoMemory)
+IsPrinted done status before now = now ≡ before ++ line_of done status
 
 -- the exit status of a program
 abbrev pub exit_code : Status → ℕ
 exit_code Done = 0
 exit_code Usage = 2
+exit_code (ProjectRefused refusal) = 3
 exit_code (InputMissing name) = 4
+exit_code (InputShort asset size need) = 5
 exit_code SourceFault = 7
 exit_code StoreFault = 8
 exit_code SinkFault = 9

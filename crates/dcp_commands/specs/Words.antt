@@ -15,3 +15,8 @@ abbrev pub make_words : List (List ℕ) → Option MakeWords
 make_words (command ∷ project ∷ out ∷ []) =
     if bytes_eq command (codes "make") && is_positional project && is_positional out then Some (record { project = project; out = out }) else None
 make_words words = None
+
+-- what `plan` is asked for: the name of the project file
+abbrev pub plan_words : List (List ℕ) → Option (List ℕ)
+plan_words (command ∷ project ∷ []) = if bytes_eq command (codes "plan") && is_positional project then Some project else None
+plan_words words = None

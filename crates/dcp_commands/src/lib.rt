@@ -1,16 +1,15 @@
 //! The commands of the programs: their words, what they do, and what they print.
 #![tactic(auto)]
 
-mod engine;
-mod item;
+mod inputs;
+mod inspect;
 mod line;
 mod make;
+mod plan_text;
 mod status;
 mod words;
 
+pub use inspect::run;
 pub use make::run_make;
-pub use status::{BadWhy, Status};
+pub use status::Status;
 pub use words::out_name;
-
-#[cfg(test)]
-mod tests;

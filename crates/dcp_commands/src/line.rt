@@ -1,15 +1,26 @@
 ghost use Rattle.std.specs.Prelude.{◌≡◌, ◌≢◌, ◌≤◌, ◌++◌, codes, string_bytes, IfOk};
 ghost use Rattle.std.specs.Fmt.{decimal};
+ghost use Rattle.make_engine.specs.declared.outcome.BadWhy.TheVariants.{Limit};
 ghost use Rattle.mast_world.specs.Count.{HasRisen};
-ghost use Rattle.dcp_commands.specs.Line.{why_text, status_text, line_of, IsPrinted};
+ghost use Rattle.dcp_commands.specs.Line.{done_text, why_text, status_text, line_of, IsPrinted};
 ghost use Rattle.dcp_commands.specs.Make.{Answers};
 
-use crate::status::{BadWhy, Status};
-use mast_world::Sink;
+use crate::status::Status;
+use film_project::refusal_text;
+use make_engine::{BadWhy, Report};
+use mast_world::{NoMemory, Sink};
 use std::alloc::{AllocError, Global};
 
+/// What `make` prints of a package, without the line's end.
+pub(crate) fn done_text(alloc: Global, report: Report) -> Result<Vec<u8>, NoMemory>
+    ensures { IfOk result (λ text. text.items ≡ done_text report.frames report.kept) }
+{
+    let (frames, kept) = (report.frames, report.kept);
+    Ok(format!(in alloc; "done: {frames} frames, {kept} kept")?.into_bytes())
+}
+
 fn limit_of(why: BadWhy) -> (u8, u64)
-    ensures { why ≡ BadWhy.Limit result.0 result.1 }
+    ensures { why ≡ Limit result.0 result.1 }
 {
     match why {
         BadWhy::Limit { part, got } => (part, got),
@@ -23,45 +34,64 @@ fn bad_frame_text(alloc: Global, frame: u32, why: BadWhy) -> Result<String, Allo
     format!(in alloc; "bad frame: {frame} limit {part} {got}")
 }
 
-/// The text of a status. That of `Done` has the number of frames.
-fn status_text(alloc: Global, status: &Status, frames: u32) -> Result<Vec<u8>, AllocError>
-    ensures { IfOk result (λ text. text.items ≡ status_text frames status.now) }
+fn short_text(alloc: Global, asset: &[u8], size: u64, need: u64) -> Result<Vec<u8>, NoMemory>
+    ensures { IfOk result (λ text. text.items ≡ codes "input short: " ++ (asset.now ++ (codes " has " ++ (decimal size ++ (codes " needs " ++ decimal need))))) }
 {
-    let text = match status {
-        Status::Done => format!(in alloc; "done: {frames} frames, 0 kept")?.into_bytes(),
-        Status::Usage => b"usage: dcp make|plan|frame|read|trial".to_vec(alloc)?,
-        Status::InputMissing { name } => {
-            let mut text = b"input missing: ".to_vec(alloc)?;
-            text.extend_from_slice(name.as_slice())?;
-            text
-        }
-        Status::SourceFault => b"source fault".to_vec(alloc)?,
-        Status::StoreFault => b"store fault".to_vec(alloc)?,
-        Status::SinkFault => b"sink fault".to_vec(alloc)?,
-        Status::NoMemory => b"no memory".to_vec(alloc)?,
-        Status::BadFrame { frame, why } => bad_frame_text(alloc, *frame, *why)?.into_bytes(),
-        Status::Unbuilt => b"unbuilt".to_vec(alloc)?,
-    };
+    let mut text = prefixed(alloc, b"input short: ", asset)?;
+    text.extend_from_slice(format!(in alloc; " has {size} needs {need}")?.as_bytes())?;
     Ok(text)
 }
 
-fn line_of(alloc: Global, status: &Status, frames: u32) -> Result<Vec<u8>, AllocError>
-    ensures { IfOk result (λ line. line.items ≡ line_of frames status.now) }
+fn prefixed(alloc: Global, front: &[u8], rest: &[u8]) -> Result<Vec<u8>, NoMemory>
+    ensures { IfOk result (λ text. text.items ≡ front.now ++ rest.now) }
 {
-    let mut line = status_text(alloc, status, frames)?;
+    let mut text = front.to_vec(alloc)?;
+    text.extend_from_slice(rest)?;
+    Ok(text)
+}
+
+/// The text of a status; `done` is that of `Done`.
+fn status_text(alloc: Global, status: &Status, done: &[u8]) -> Result<Vec<u8>, NoMemory>
+    ensures { IfOk result (λ text. text.items ≡ status_text done.now status.now) }
+{
+    match status {
+        Status::Done => Ok(done.to_vec(alloc)?),
+        Status::Usage => Ok(b"usage: dcp make|plan|frame|read|trial".to_vec(alloc)?),
+        Status::ProjectRefused { refusal } => {
+            let text = refusal_text(alloc, refusal)?;
+            prefixed(alloc, b"project refused: ", text.as_slice())
+        }
+        Status::InputMissing { name } => prefixed(alloc, b"input missing: ", name.as_slice()),
+        Status::InputShort { asset, size, need } => {
+            short_text(alloc, asset.as_slice(), *size, *need)
+        }
+        Status::SourceFault => Ok(b"source fault".to_vec(alloc)?),
+        Status::StoreFault => Ok(b"store fault".to_vec(alloc)?),
+        Status::SinkFault => Ok(b"sink fault".to_vec(alloc)?),
+        Status::NoMemory => Ok(b"no memory".to_vec(alloc)?),
+        Status::BadFrame { frame, why } => Ok(bad_frame_text(alloc, *frame, *why)?.into_bytes()),
+        Status::Unbuilt => Ok(b"unbuilt".to_vec(alloc)?),
+    }
+}
+
+fn line_of(alloc: Global, status: &Status, done: &[u8]) -> Result<Vec<u8>, NoMemory>
+    ensures { IfOk result (λ line. line.items ≡ line_of done.now status.now) }
+{
+    let mut line = status_text(alloc, status, done)?;
     line.push(b'\n')?;
     Ok(line)
 }
 
-/// Prints the line of a status, and answers the status, or why it couldn't be printed.
-pub(crate) fn print<O: Sink>(alloc: Global, status: Status, frames: u32, out: &mut O) -> Status
+/// Prints the line of a status, and answers the status, or why it couldn't be printed. `done` is the
+/// text of `Done`.
+pub(crate) fn print<O: Sink>(alloc: Global, status: Status, done: &[u8], out: &mut O) -> Status
     requires { status ≢ Status.SinkFault }
     ensures answer { Answers result status }
-    ensures printed { O.tells → IsPrinted frames result (O.written out.old) (O.written out.new) }
+    ensures printed { O.tells → IsPrinted done.now result (O.written out.old) (O.written out.new) }
     ensures sink_fault { result ≡ Status.SinkFault → HasRisen (O.faults out.old) (O.faults out.new) }
     ensures faults_kept { O.faults out.old ≤ O.faults out.new }
 {
-    let Ok(line) = line_of(alloc, &status, frames) else {
+    let Ok(line) = line_of(alloc, &status, done) else {
         return Status::NoMemory;
     };
     match out.put(&line) {

@@ -1,87 +1,26 @@
-ghost use Rattle.std.specs.Prelude.{◌≡◌, ◌≢◌, ◌⊎◌, ◌↔◌, ◌≤◌, ◌<◌, ℕ, List, [], Some, None, Err, IfOk, OnOk, IsSome, length, map, option_and_then, string_bytes, unwrap_or};
-ghost use Rattle.film_project.specs.First.{first_of};
+ghost use Rattle.std.specs.Prelude.{◌≡◌, ◌≢◌, ◌⊎◌, ◌≤◌, ◌<◌, ℕ, List, Some, None, Err, IfOk, OnOk, IsSome, map, string_bytes};
+ghost use Rattle.make_engine.specs.Causes.{IsUnwritten};
+ghost use Rattle.make_engine.specs.declared.outcome.BadWhy.{BadWhy};
 ghost use Rattle.mast_world.specs.Count.{HasRisen, counted};
-ghost use Rattle.dcp_commands.specs.Line.{IsPrinted};
-ghost use Rattle.dcp_commands.specs.Make.{Answers, IsBadInProject, IsMissingInput, IsUnbuilt, frames_of, input_size, shown_frames, status_of};
-ghost use Rattle.dcp_commands.specs.Package.{package_of, project_of};
+ghost use Rattle.mast_world.specs.declared.volume.FileId.TheVariants.{Picture};
+ghost use Rattle.dcp_commands.specs.Line.{IsPrinted, done_text};
+ghost use Rattle.dcp_commands.specs.Make.{Answers, IsBadInProject, IsEarly, IsMissingInProject, checked, frames_of, input_size, package_of, status_of};
 ghost use Rattle.dcp_commands.specs.Words.{make_words};
-ghost use Rattle.dcp_commands.specs.declared.engine.TheConstants.{PICTURE};
-ghost use Rattle.dcp_commands.specs.declared.status.BadWhy.{BadWhy};
-ghost use Rattle.mast_world.specs.declared.volume.FileId.{FileId};
 
-use crate::engine::{Report, make_alone};
-use crate::line::print;
-use crate::status::{ProjectEnd, Status};
+use crate::inputs::read_plan;
+use crate::line::{done_text, print};
+use crate::status::Status;
 use crate::words::make_words;
-use film_project::{First, FirstRefusal, read_first};
-use mast_world::{Bytes, Failed, Sink, Source, Volume};
-use std::alloc::{AllocError, Global};
+use make_engine::{Options, Report, make_alone};
+use mast_world::{Sink, Source, Volume};
+use std::alloc::Global;
 
-/// The greatest size of a project file, in bytes.
-const LONGEST: u64 = 8_388_608;
-
-fn source_fault(_fault: Failed) -> ProjectEnd
-    ensures { result ≡ ProjectEnd.SourceFault }
-{
-    ProjectEnd::SourceFault
-}
-
-fn make_text(alloc: Global, size: usize) -> Result<Vec<u8>, AllocError>
-    ensures { IfOk result (λ text. length text.items ≡ size) }
-{
-    Vec::from_elem(alloc, 0, size)
-}
-
-/// Reads the text of the project file of this name.
-fn read_text<S: Source>(alloc: Global, source: &mut S, name: &[u8]) -> Result<Vec<u8>, ProjectEnd>
-    ensures read { S.tells → IfOk result (λ text. S.file source.old name.now ≡ Some text.items) }
-    ensures taken { IfOk result (λ text. S.taken source.new ≡ counted (S.taken source.old) (length text.items)) }
-    ensures same_files { S.file source.new ≡ S.file source.old }
-
-    ensures unbuilt { result ≡ Err ProjectEnd.Unbuilt → S.tells → (text : List ℕ) × (S.file source.old name.now ≡ Some text) × (8388608 < length text) }
-    ensures missing { (n : List ℕ) → result ≡ Err (ProjectEnd.InputMissing n) → (n ≡ name.now) × (S.tells → S.file source.old name.now ≡ None) }
-    ensures missing_count { (n : List ℕ) → result ≡ Err (ProjectEnd.InputMissing n) → HasRisen (S.absent source.old) (S.absent source.new) }
-    ensures source_fault { result ≡ Err ProjectEnd.SourceFault → HasRisen (S.faults source.old) (S.faults source.new) }
-
-    ensures absent_kept { S.absent source.old ≤ S.absent source.new }
-    ensures faults_kept { S.faults source.old ≤ S.faults source.new }
-{
-    let Some(size) = source.find(name).map_err(source_fault)? else {
-        return Err(ProjectEnd::InputMissing {
-            name: Bytes::copy_of(alloc, name)?,
-        });
-    };
-    if size > LONGEST {
-        return Err(ProjectEnd::Unbuilt);
-    }
-    let mut text = make_text(alloc, size as usize)?;
-    source
-        .read(name, 0, text.as_mut_slice())
-        .map_err(source_fault)?;
-    Ok(text)
-}
-
-/// Reads the project file of this name.
-fn read_project<S: Source>(alloc: Global, source: &mut S, name: &[u8]) -> Result<First, ProjectEnd>
-    ensures read { S.tells → IfOk result (λ first. option_and_then first_of (S.file source.old name.now) ≡ Some first) }
-    ensures taken { S.tells → OnOk result (S.taken source.new ≡ counted (S.taken source.old) (length (unwrap_or (S.file source.old name.now) []))) }
-    ensures same_files { S.file source.new ≡ S.file source.old }
-
-    ensures unbuilt { result ≡ Err ProjectEnd.Unbuilt → S.tells → (text : List ℕ) × (S.file source.old name.now ≡ Some text) × (first_of text ≡ None) }
-    ensures missing { (n : List ℕ) → result ≡ Err (ProjectEnd.InputMissing n) → (n ≡ name.now) × (S.tells → S.file source.old name.now ≡ None) }
-    ensures missing_count { (n : List ℕ) → result ≡ Err (ProjectEnd.InputMissing n) → HasRisen (S.absent source.old) (S.absent source.new) }
-    ensures source_fault { result ≡ Err ProjectEnd.SourceFault → HasRisen (S.faults source.old) (S.faults source.new) }
-
-    ensures absent_kept { S.absent source.old ≤ S.absent source.new }
-    ensures faults_kept { S.faults source.old ≤ S.faults source.new }
-{
-    let text = read_text(alloc, source, name)?;
-    match read_first(alloc, text.as_slice()) {
-        Ok(first) => Ok(first),
-        Err(FirstRefusal::Unbuilt) => Err(ProjectEnd::Unbuilt),
-        Err(FirstRefusal::NoMemory) => Err(ProjectEnd::NoMemory),
-    }
-}
+/// What holds where the words say nothing else.
+const OPTIONS: Options = Options {
+    workers: 1,
+    held: 8,
+    fresh: false,
+};
 
 /// Makes the package that the words ask for.
 fn make_package<S: Source, V: Volume>(
@@ -90,44 +29,53 @@ fn make_package<S: Source, V: Volume>(
     source: &mut S,
     volume: &mut V,
 ) -> Result<Report, Status>
-    ensures package { S.tells → V.tells → OnOk result (package_of (S.file source.old) (map string_bytes words.now) ≡ Some (V.reads volume.new PICTURE)) }
+    ensures package { S.tells → V.tells → OnOk result (package_of (S.file source.old) (map string_bytes words.now) ≡ Some (V.reads volume.new (Picture 1))) }
     ensures frames { S.tells → IfOk result (λ report. frames_of (S.file source.old) (map string_bytes words.now) ≡ Some report.frames) }
+    ensures kept { IfOk result (λ report. report.kept ≡ 0) }
     ensures taken { S.tells → OnOk result (S.taken source.new ≡ counted (S.taken source.old) (input_size (S.file source.old) (map string_bytes words.now))) }
 
     ensures usage { result ≡ Err Status.Usage → make_words (map string_bytes words.now) ≡ None }
     ensures refused { make_words (map string_bytes words.now) ≡ None → result ≡ Err Status.Usage }
-    ensures unbuilt { result ≡ Err Status.Unbuilt → S.tells → IsUnbuilt (S.file source.old) (map string_bytes words.now) }
-    ensures missing { (name : List ℕ) → result ≡ Err (Status.InputMissing name) → IsMissingInput S.tells (S.file source.old) (map string_bytes words.now) name }
+    ensures early { (status : Status) → result ≡ Err status → IsEarly status → S.tells → checked (S.file source.old) (map string_bytes words.now) ≡ Err status }
+    ensures ended { (status : Status) → S.tells → checked (S.file source.old) (map string_bytes words.now) ≡ Err status → (result ≡ Err status) ⊎ (result ≡ Err Status.SourceFault) ⊎ (result ≡ Err Status.NoMemory) }
+    ensures unwritten { (status : Status) → result ≡ Err status → IsEarly status → IsUnwritten (V.reads volume.old) (V.reads volume.new) (V.put volume.old) (V.put volume.new) }
+    ensures missing { (name : List ℕ) → result ≡ Err (Status.InputMissing name) → ((S.tells → checked (S.file source.old) (map string_bytes words.now) ≡ Err (Status.InputMissing name)) × IsUnwritten (V.reads volume.old) (V.reads volume.new) (V.put volume.old) (V.put volume.new)) ⊎ IsMissingInProject S.tells (S.file source.old) (map string_bytes words.now) name }
     ensures missing_count { (name : List ℕ) → result ≡ Err (Status.InputMissing name) → HasRisen (S.absent source.old) (S.absent source.new) }
+    ensures short { (asset : List ℕ) (size need : ℕ) → result ≡ Err (Status.InputShort asset size need) → size < need }
     ensures bad { (frame : ℕ) (why : BadWhy) → result ≡ Err (Status.BadFrame frame why) → IsBadInProject S.tells (S.file source.old) (map string_bytes words.now) frame why }
     ensures source_fault { result ≡ Err Status.SourceFault → HasRisen (S.faults source.old) (S.faults source.new) }
     ensures store_fault { result ≡ Err Status.StoreFault → HasRisen (V.faults volume.old) (V.faults volume.new) }
-    ensures store_after { result ≡ Err Status.StoreFault → S.tells → IsSome (project_of (S.file source.old) (map string_bytes words.now)) }
-    ensures not_done { result ≢ Err Status.Done }
+    ensures complete { S.tells → IsSome (package_of (S.file source.old) (map string_bytes words.now)) → ¬ HasRisen (S.faults source.old) (S.faults source.new) → ¬ HasRisen (V.faults volume.old) (V.faults volume.new) → (status_of result ≡ Status.Done) ⊎ (status_of result ≡ Status.NoMemory) }
     ensures not_sink_fault { result ≢ Err Status.SinkFault }
+    ensures not_done { result ≢ Err Status.Done }
 {
     let Some(asked) = make_words(words) else {
         return Err(Status::Usage);
     };
-    let first = read_project(alloc, source, asked.project.as_bytes())?;
-    Ok(make_alone(alloc, &first, source, volume)?)
+    let plan = read_plan(alloc, source, asked.project.as_bytes())?;
+    Ok(make_alone(alloc, &plan, &OPTIONS, source, volume)?)
 }
 
 /// Prints how a run ended.
 fn conclude<O: Sink>(alloc: Global, outcome: Result<Report, Status>, out: &mut O) -> Status
-    requires { outcome ≢ Err Status.SinkFault }
+    requires sink { outcome ≢ Err Status.SinkFault }
+    requires done { outcome ≢ Err Status.Done }
+    requires kept { IfOk outcome (λ report. report.kept ≡ 0) }
     ensures answer { Answers result (status_of outcome) }
-    ensures printed { O.tells → IsPrinted (shown_frames outcome) result (O.written out.old) (O.written out.new) }
+    ensures printed { O.tells → (frames : ℕ) × IfOk outcome (λ report. report.frames ≡ frames) × IsPrinted (done_text frames 0) result (O.written out.old) (O.written out.new) }
     ensures sink_fault { result ≡ Status.SinkFault → HasRisen (O.faults out.old) (O.faults out.new) }
 {
     match outcome {
-        Ok(report) => print(alloc, Status::Done, report.frames, out),
-        Err(status) => print(alloc, status, 0, out),
+        Ok(report) => match done_text(alloc, report) {
+            Ok(done) => print(alloc, Status::Done, &done, out),
+            Err(_) => Status::NoMemory,
+        },
+        Err(status) => print(alloc, status, b"", out),
     }
 }
 
-/// Runs `make`: copies the ready codestreams of the project that the words name into the picture file of
-/// the volume, and prints how it ended.
+/// Runs `make`: makes the package of the project that the words name in the volume, and prints how
+/// it ended.
 pub fn run_make<S: Source, V: Volume, O: Sink>(
     alloc: Global,
     words: &[String],
@@ -136,17 +84,19 @@ pub fn run_make<S: Source, V: Volume, O: Sink>(
     out: &mut O,
 ) -> Status
     // On `Done` the picture file is that of the frame-by-frame definition, and all input was read once.
-    ensures package { S.tells → V.tells → result ≡ Status.Done → package_of (S.file source.old) (map string_bytes words.now) ≡ Some (V.reads volume.new (FileId.Picture 1)) }
+    ensures package { S.tells → V.tells → result ≡ Status.Done → package_of (S.file source.old) (map string_bytes words.now) ≡ Some (V.reads volume.new (Picture 1)) }
     ensures taken { S.tells → result ≡ Status.Done → S.taken source.new ≡ counted (S.taken source.old) (input_size (S.file source.old) (map string_bytes words.now)) }
 
-    // Refused words, and a project that isn't of the first form.
+    // Words, project and inputs that end the command before a frame is read: the first cause in their order.
     ensures usage { result ≡ Status.Usage → make_words (map string_bytes words.now) ≡ None }
     ensures refused { make_words (map string_bytes words.now) ≡ None → Answers result Status.Usage }
-    ensures unbuilt { result ≡ Status.Unbuilt → S.tells → IsUnbuilt (S.file source.old) (map string_bytes words.now) }
-    ensures not_built { S.tells → IsUnbuilt (S.file source.old) (map string_bytes words.now) → (result ≡ Status.SourceFault) ⊎ Answers result Status.Unbuilt }
+    ensures early { IsEarly result → S.tells → checked (S.file source.old) (map string_bytes words.now) ≡ Err result }
+    ensures ended { (status : Status) → S.tells → checked (S.file source.old) (map string_bytes words.now) ≡ Err status → (result ≡ Status.SourceFault) ⊎ Answers result status }
+    ensures unwritten { IsEarly result → IsUnwritten (V.reads volume.old) (V.reads volume.new) (V.put volume.old) (V.put volume.new) }
+    ensures short { (asset : List ℕ) (size need : ℕ) → result ≡ Status.InputShort asset size need → size < need }
 
-    // Inputs that aren't there, or break their form.
-    ensures missing { (name : List ℕ) → result ≡ Status.InputMissing name → IsMissingInput S.tells (S.file source.old) (map string_bytes words.now) name }
+    // A missing input is missed before anything is written, or it is that of a fresh frame.
+    ensures missing { (name : List ℕ) → result ≡ Status.InputMissing name → ((S.tells → checked (S.file source.old) (map string_bytes words.now) ≡ Err (Status.InputMissing name)) × IsUnwritten (V.reads volume.old) (V.reads volume.new) (V.put volume.old) (V.put volume.new)) ⊎ IsMissingInProject S.tells (S.file source.old) (map string_bytes words.now) name }
     ensures missing_count { (name : List ℕ) → result ≡ Status.InputMissing name → HasRisen (S.absent source.old) (S.absent source.new) }
     ensures bad { (frame : ℕ) (why : BadWhy) → result ≡ Status.BadFrame frame why → IsBadInProject S.tells (S.file source.old) (map string_bytes words.now) frame why }
 
@@ -156,7 +106,7 @@ pub fn run_make<S: Source, V: Volume, O: Sink>(
     ensures sink_fault { result ≡ Status.SinkFault → HasRisen (O.faults out.old) (O.faults out.new) }
 
     // The line that is printed; that of `Done` has the project's number of frames.
-    ensures printed { O.tells → (frames : ℕ) × (S.tells → result ≡ Status.Done → frames_of (S.file source.old) (map string_bytes words.now) ≡ Some frames) × IsPrinted frames result (O.written out.old) (O.written out.new) }
+    ensures printed { O.tells → (frames : ℕ) × (S.tells → result ≡ Status.Done → frames_of (S.file source.old) (map string_bytes words.now) ≡ Some frames) × IsPrinted (done_text frames 0) result (O.written out.old) (O.written out.new) }
 
     // Where there is a package and no device fails, nothing but want of memory keeps it from being made.
     ensures complete { S.tells → IsSome (package_of (S.file source.old) (map string_bytes words.now)) → ¬ HasRisen (S.faults source.old) (S.faults source.new) → ¬ HasRisen (V.faults volume.old) (V.faults volume.new) → ¬ HasRisen (O.faults out.old) (O.faults out.new) → (result ≡ Status.Done) ⊎ (result ≡ Status.NoMemory) }

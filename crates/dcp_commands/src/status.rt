@@ -1,16 +1,7 @@
-ghost use Rattle.std.specs.Prelude.{◌≡◌};
-ghost use Rattle.dcp_commands.specs.declared.status.MakeEnd.TheVariants as end;
-ghost use Rattle.dcp_commands.specs.declared.status.ProjectEnd.TheVariants as project_end;
-
+use crate::inputs::PlanEnd;
+use film_project::ProjectRefusal;
+use make_engine::{BadWhy, MakeEnd};
 use mast_world::Bytes;
-use std::alloc::{AllocError, AllocFailed};
-
-/// How a frame's input breaks its form.
-#[derive(Clone, Copy, Debug, PartialEq, Eq)]
-pub enum BadWhy {
-    /// It has more bytes than the limit of this part allows; part 0 is the whole.
-    Limit { part: u8, got: u64 },
-}
 
 /// How a command ended.
 #[derive(Debug, Drop)]
@@ -18,8 +9,11 @@ pub enum Status {
     Done,
     /// The words are no accepted command.
     Usage,
+    ProjectRefused { refusal: ProjectRefusal },
     /// There is no file of this name.
     InputMissing { name: Bytes },
+    /// The asset of this id has fewer bytes than its clips need.
+    InputShort { asset: Bytes, size: u64, need: u64 },
     SourceFault,
     StoreFault,
     /// The status couldn't be printed.
@@ -30,38 +24,20 @@ pub enum Status {
     Unbuilt,
 }
 
-/// Why no package was made.
-#[derive(Debug, Drop)]
-pub(crate) enum MakeEnd {
-    InputMissing { name: Bytes },
-    BadFrame { frame: u32, why: BadWhy },
-    SourceFault,
-    StoreFault,
-    NoMemory,
-}
+impl From<PlanEnd> for Status {
+    ghost use Rattle.std.specs.Prelude.{◌≡◌};
+    ghost use Rattle.dcp_commands.specs.Make.{plan_status};
 
-/// Why a project file wasn't read.
-#[derive(Debug, Drop)]
-pub(crate) enum ProjectEnd {
-    InputMissing { name: Bytes },
-    Unbuilt,
-    SourceFault,
-    NoMemory,
-}
+    ghost from_gives = { λ end status. status ≡ plan_status end };
 
-impl From<AllocError> for MakeEnd {
-    ghost from_gives = { λ _ made. made ≡ end.NoMemory };
-
-    fn from(_error: AllocError) -> Self {
-        MakeEnd::NoMemory
-    }
-}
-
-impl From<AllocError> for ProjectEnd {
-    ghost from_gives = { λ _ made. made ≡ project_end.NoMemory };
-
-    fn from(_error: AllocError) -> Self {
-        ProjectEnd::NoMemory
+    fn from(end: PlanEnd) -> Self {
+        match end {
+            PlanEnd::InputMissing { name } => Status::InputMissing { name },
+            PlanEnd::ProjectRefused { refusal } => Status::ProjectRefused { refusal },
+            PlanEnd::InputShort { asset, size, need } => Status::InputShort { asset, size, need },
+            PlanEnd::SourceFault => Status::SourceFault,
+            PlanEnd::NoMemory => Status::NoMemory,
+        }
     }
 }
 
@@ -77,28 +53,14 @@ impl From<MakeEnd> for Status {
             MakeEnd::BadFrame { frame, why } => Status::BadFrame { frame, why },
             MakeEnd::SourceFault => Status::SourceFault,
             MakeEnd::StoreFault => Status::StoreFault,
+            MakeEnd::Unbuilt => Status::Unbuilt,
             MakeEnd::NoMemory => Status::NoMemory,
         }
     }
 }
 
-impl From<ProjectEnd> for Status {
-    ghost use Rattle.std.specs.Prelude.{◌≡◌};
-    ghost use Rattle.dcp_commands.specs.Make.{project_status};
-
-    ghost from_gives = { λ end status. status ≡ project_status end };
-
-    fn from(end: ProjectEnd) -> Self {
-        match end {
-            ProjectEnd::InputMissing { name } => Status::InputMissing { name },
-            ProjectEnd::Unbuilt => Status::Unbuilt,
-            ProjectEnd::SourceFault => Status::SourceFault,
-            ProjectEnd::NoMemory => Status::NoMemory,
-        }
-    }
-}
-
 impl Status {
+    ghost use Rattle.std.specs.Prelude.{◌≡◌};
     ghost use Rattle.dcp_commands.specs.Line.{exit_code};
 
     /// The exit status of a program that ends so.
@@ -108,7 +70,13 @@ impl Status {
         match self {
             Status::Done => 0,
             Status::Usage => 2,
+            Status::ProjectRefused { refusal: _ } => 3,
             Status::InputMissing { name: _ } => 4,
+            Status::InputShort {
+                asset: _,
+                size: _,
+                need: _,
+            } => 5,
             Status::SourceFault => 7,
             Status::StoreFault => 8,
             Status::SinkFault => 9,

@@ -1,5 +1,5 @@
 ghost use Rattle.std.specs.Prelude.{◌≡◌, map, option_map, string_bytes, IfOk};
-ghost use Rattle.dcp_commands.specs.Words.{MakeWords, is_positional, make_words};
+ghost use Rattle.dcp_commands.specs.Words.{MakeWords, is_positional, make_words, plan_words};
 
 use mast_world::{Bytes, NoMemory};
 use std::alloc::Global;
@@ -36,6 +36,20 @@ pub(crate) fn make_words(words: &[String]) -> Option<Asked<'_>>
         project: project.as_str(),
         out: out.as_str(),
     })
+}
+
+/// The name of the project file that is to be planned.
+pub(crate) fn plan_words(words: &[String]) -> Option<&str>
+    ensures { option_map (λ project. project.now) result ≡ plan_words (map string_bytes words.now) }
+{
+    let [command, project] = words else {
+        return None;
+    };
+    if command.as_str() == "plan" && is_positional(project.as_str()) {
+        Some(project.as_str())
+    } else {
+        None
+    }
 }
 
 /// The output folder that the words name, or `None` where they are no accepted `make`.

@@ -1,25 +1,139 @@
-use Rattle.std.proofs.Common.{◌≡◌, List, ℕ, Err, inr, ap, ◌∙◌, rules}
+-- The plan's project is that of the words; where it is built, the engine's answer is the command's.
+use Rattle.std.proofs.Common.{◌≡◌, ◌+◌, List, [], ℕ, Some, None, Ok, Err, inl, inr, length, map, string_bytes, ap, subst, sym, ◌∙◌}
 use Rattle.std.proofs.lemmas.Result.{err_from_is_err_and}
-use Rattle.dcp_commands.specs.Make.{make_status}
-use Rattle.dcp_commands.specs.declared.status.MakeEnd.{MakeEnd}
-use Rattle.dcp_commands.specs.declared.status.MakeEnd.TheVariants as end
-use Rattle.dcp_commands.specs.declared.status.Status.TheVariants.{InputMissing}
+use Rattle.std.specs.Prelude.{unwrap_or}
+use Rattle.film_project.specs.Plain.{project_facts}
+use Rattle.make_engine.specs.Package.{frames_size, is_built}
+use Rattle.make_engine.specs.declared.outcome.MakeEnd.TheVariants as make_end
+use Rattle.mast_world.specs.Count.{counted}
+use Rattle.dcp_commands.specs.Inputs.{planned}
+use Rattle.dcp_commands.specs.Make.{IsEarly, make_status, status_of}
+use Rattle.dcp_commands.specs.Words.{MakeWords}
+use Rattle.dcp_commands.specs.declared.status.Status.{Status}
+use Rattle.dcp_commands.specs.declared.status.Status.TheVariants.{InputMissing, BadFrame}
+use Rattle.dcp_commands.proofs.Making.{bad_end, built, built_unless, checked_built, checked_by, counted-counted, early_end, ended_unbuilt, frames_are, input_is, missing_end, package_from, package_is, risen_later}
 use Rattle.dcp_commands.proofs.make.make_package.Goals as goal
 
-missing_end : (e : MakeEnd) (name : List ℕ) → make_status e ≡ InputMissing name → e ≡ end.InputMissing name
-missing_end (end.InputMissing n) name h = ap end.InputMissing (cc)
-missing_end (end.BadFrame f why) name h = absurd (cc)
-missing_end end.SourceFault name h = absurd (cc)
-missing_end end.StoreFault name h = absurd (cc)
-missing_end end.NoMemory name h = absurd (cc)
+pub returns-in_err-make_alone-clause-ended : goal.returns-in_err-make_alone-clause-ended
+returns-in_err-make_alone-clause-ended g c = λ status tells is.
+    let files = g.S.Source.file c.args.source.now in
+    let words = map string_bytes c.args.words.now in
+    let project = project_facts c.in_ok-plan.plan.project in
+    let asked : MakeWords = record { project = c.in-Some.asked.project.now; out = c.in-Some.asked.out.now } in
+    let end = c.in_err-make_alone.field-0.0 in
+    let p = err_from_is_err_and c.from_residual-in_err-make_alone.result c.from_residual-in_err-make_alone.ensures.1 in
+    let told = checked_by files words asked project (sym c.in-Some.ensures) (ap (planned files) (sym c.as_bytes.ensures.value) ∙ c.in_ok-plan.ensures.planned tells) in
+    elim (ended_unbuilt (is_built project) project status c.make_alone.result end (sym told ∙ is) c.in_err-make_alone.was c.make_alone.ensures.not_built) [
+      | inl same ↦ inl (p.1 ∙ ap Err (p.2 ∙ same))
+      | inr memory ↦ inr (inr (p.1 ∙ ap Err (p.2 ∙ memory)))
+    ]
+
+pub returns-in_err-make_alone-clause-unwritten : goal.returns-in_err-make_alone-clause-unwritten
+returns-in_err-make_alone-clause-unwritten g c = λ status e early.
+    let end = c.in_err-make_alone.field-0.0 in
+    let p = err_from_is_err_and c.from_residual-in_err-make_alone.result c.from_residual-in_err-make_alone.ensures.1 in
+    let is : status ≡ make_status end = cc (e, p.1, p.2) in
+    let unbuilt = early_end end (subst (λ s. IsEarly s) is early) in
+    c.make_alone.ensures.unwritten (c.in_err-make_alone.was ∙ ap Err unbuilt)
 
 pub returns-in_err-make_alone-clause-missing : goal.returns-in_err-make_alone-clause-missing
 returns-in_err-make_alone-clause-missing g c = λ name e.
+    let files = g.S.Source.file c.args.source.now in
+    let words = map string_bytes c.args.words.now in
+    let project = project_facts c.in_ok-plan.plan.project in
+    let asked : MakeWords = record { project = c.in-Some.asked.project.now; out = c.in-Some.asked.out.now } in
+    let end = c.in_err-make_alone.field-0.0 in
     let p = err_from_is_err_and c.from_residual-in_err-make_alone.result c.from_residual-in_err-make_alone.ensures.1 in
-    let is : make_status c.in_err-make_alone.field-0.0 ≡ InputMissing name = cc (e, p.1, p.2) in
-    let ended : c.make_alone.result ≡ Err (end.InputMissing name) = c.in_err-make_alone.was ∙ ap Err (missing_end c.in_err-make_alone.field-0.0 name is) in
+    let ended = missing_end end name (cc (e, p.1, p.2)) in
+    let on = built_unless (is_built project) c.make_alone.result end c.in_err-make_alone.was (λ h. cc (h, ended)) (λ h. cc (h, ended)) c.make_alone.ensures.not_built in
     inr (record {
-      first = c.in_ok-first.first;
-      project = λ tells. search rules;
-      missing = rw (← c.in_ok-first.ensures.same_files) (c.make_alone.ensures.missing name ended);
+      project = project;
+      told = λ tells. checked_built files words asked project (sym c.in-Some.ensures) (ap (planned files) (sym c.as_bytes.ensures.value) ∙ c.in_ok-plan.ensures.planned tells) on;
+      missing = rw (← c.in_ok-plan.ensures.same_files) (c.make_alone.ensures.missing name (c.in_err-make_alone.was ∙ ap Err ended));
     })
+
+pub returns-in_err-make_alone-clause-missing_count : goal.returns-in_err-make_alone-clause-missing_count
+returns-in_err-make_alone-clause-missing_count g c = λ name e.
+    let end = c.in_err-make_alone.field-0.0 in
+    let p = err_from_is_err_and c.from_residual-in_err-make_alone.result c.from_residual-in_err-make_alone.ensures.1 in
+    let ended = missing_end end name (cc (e, p.1, p.2)) in
+    risen_later (g.S.Source.absent c.args.source.now) (g.S.Source.absent c.read_plan.new.source) (g.S.Source.absent c.make_alone.new.source)
+    c.in_ok-plan.ensures.absent_kept (c.make_alone.ensures.missing_count name (c.in_err-make_alone.was ∙ ap Err ended))
+
+pub returns-in_err-make_alone-clause-bad : goal.returns-in_err-make_alone-clause-bad
+returns-in_err-make_alone-clause-bad g c = λ frame why e.
+    let files = g.S.Source.file c.args.source.now in
+    let words = map string_bytes c.args.words.now in
+    let project = project_facts c.in_ok-plan.plan.project in
+    let asked : MakeWords = record { project = c.in-Some.asked.project.now; out = c.in-Some.asked.out.now } in
+    let end = c.in_err-make_alone.field-0.0 in
+    let p = err_from_is_err_and c.from_residual-in_err-make_alone.result c.from_residual-in_err-make_alone.ensures.1 in
+    let ended = bad_end end frame why (cc (e, p.1, p.2)) in
+    let on = built_unless (is_built project) c.make_alone.result end c.in_err-make_alone.was (λ h. cc (h, ended)) (λ h. cc (h, ended)) c.make_alone.ensures.not_built in
+    record {
+      project = project;
+      told = λ tells. checked_built files words asked project (sym c.in-Some.ensures) (ap (planned files) (sym c.as_bytes.ensures.value) ∙ c.in_ok-plan.ensures.planned tells) on;
+      bad = rw (← c.in_ok-plan.ensures.same_files) (c.make_alone.ensures.bad frame why (c.in_err-make_alone.was ∙ ap Err ended));
+    }
+
+pub returns-in_err-make_alone-clause-complete : goal.returns-in_err-make_alone-clause-complete
+returns-in_err-make_alone-clause-complete g c = λ tells some source volume.
+    let files = g.S.Source.file c.args.source.now in
+    let words = map string_bytes c.args.words.now in
+    let project = project_facts c.in_ok-plan.plan.project in
+    let asked : MakeWords = record { project = c.in-Some.asked.project.now; out = c.in-Some.asked.out.now } in
+    let p = err_from_is_err_and c.from_residual-in_err-make_alone.result c.from_residual-in_err-make_alone.ensures.1 in
+    let both = package_from files words project (is_built project) (checked_by files words asked project (sym c.in-Some.ensures) (ap (planned files) (sym c.as_bytes.ensures.value) ∙ c.in_ok-plan.ensures.planned tells)) some in
+    elim (c.make_alone.ensures.complete tells both.0 (rw c.in_ok-plan.ensures.same_files both.1)
+    (λ risen. source (risen_later (g.S.Source.faults c.args.source.now) (g.S.Source.faults c.read_plan.new.source) (g.S.Source.faults c.make_alone.new.source) c.in_ok-plan.ensures.faults_kept risen))
+    volume) [
+      | inl memory ↦ (let is : c.in_err-make_alone.field-0.0 ≡ make_end.NoMemory = cc (memory, c.in_err-make_alone.was) in inr (ap status_of (p.1 ∙ ap Err (p.2 ∙ ap make_status is))))
+      | inr made ↦ absurd (cc (made, c.in_err-make_alone.was))
+    ]
+
+pub returns-clause-package : goal.returns-clause-package
+returns-clause-package g c = λ tells told.
+    let files = g.S.Source.file c.args.source.now in
+    let words = map string_bytes c.args.words.now in
+    let project = project_facts c.in_ok-plan.plan.project in
+    let asked : MakeWords = record { project = c.in-Some.asked.project.now; out = c.in-Some.asked.out.now } in
+    let on = built (is_built project) c.make_alone.result c.in_ok-make_alone.field-0 c.in_ok-make_alone.was c.make_alone.ensures.not_built in
+    package_is files words project _
+    (checked_built files words asked project (sym c.in-Some.ensures) (ap (planned files) (sym c.as_bytes.ensures.value) ∙ c.in_ok-plan.ensures.planned tells) on)
+    (rw (← c.in_ok-plan.ensures.same_files) (c.in_ok-make_alone.ensures.picture tells told))
+
+pub returns-clause-frames : goal.returns-clause-frames
+returns-clause-frames g c = λ tells.
+    let files = g.S.Source.file c.args.source.now in
+    let words = map string_bytes c.args.words.now in
+    let project = project_facts c.in_ok-plan.plan.project in
+    let asked : MakeWords = record { project = c.in-Some.asked.project.now; out = c.in-Some.asked.out.now } in
+    let on = built (is_built project) c.make_alone.result c.in_ok-make_alone.field-0 c.in_ok-make_alone.was c.make_alone.ensures.not_built in
+    frames_are files words project (checked_built files words asked project (sym c.in-Some.ensures) (ap (planned files) (sym c.as_bytes.ensures.value) ∙ c.in_ok-plan.ensures.planned tells) on)
+    ∙ ap (λ report. Some report.frames) (sym c.in_ok-make_alone.ensures.report)
+
+pub returns-clause-taken : goal.returns-clause-taken
+returns-clause-taken g c = λ tells.
+    let files = g.S.Source.file c.args.source.now in
+    let words = map string_bytes c.args.words.now in
+    let project = project_facts c.in_ok-plan.plan.project in
+    let asked : MakeWords = record { project = c.in-Some.asked.project.now; out = c.in-Some.asked.out.now } in
+    let on = built (is_built project) c.make_alone.result c.in_ok-make_alone.field-0 c.in_ok-make_alone.was c.make_alone.ensures.not_built in
+    let told = checked_built files words asked project (sym c.in-Some.ensures) (ap (planned files) (sym c.as_bytes.ensures.value) ∙ c.in_ok-plan.ensures.planned tells) on in
+    let text = length (unwrap_or (files asked.project) []) in
+    let first : g.S.Source.taken c.read_plan.new.source ≡ counted (g.S.Source.taken c.args.source.now) text = rw (← c.as_bytes.ensures.value) (c.in_ok-plan.ensures.taken tells) in
+    let rest : g.S.Source.taken c.make_alone.new.source ≡ counted (g.S.Source.taken c.read_plan.new.source) (frames_size files project) = rw (← c.in_ok-plan.ensures.same_files) (c.in_ok-make_alone.ensures.taken tells) in
+    rest
+    ∙ ap (λ n. counted n (frames_size files project)) first
+    ∙ counted-counted (g.S.Source.taken c.args.source.now) text (frames_size files project)
+    ∙ ap (counted (g.S.Source.taken c.args.source.now)) (sym (input_is files words asked project (sym c.in-Some.ensures) told))
+
+pub returns-clause-ended : goal.returns-clause-ended
+returns-clause-ended g c = λ status tells is.
+    let files = g.S.Source.file c.args.source.now in
+    let words = map string_bytes c.args.words.now in
+    let project = project_facts c.in_ok-plan.plan.project in
+    let asked : MakeWords = record { project = c.in-Some.asked.project.now; out = c.in-Some.asked.out.now } in
+    let on = built (is_built project) c.make_alone.result c.in_ok-make_alone.field-0 c.in_ok-make_alone.was c.make_alone.ensures.not_built in
+    let told = checked_built files words asked project (sym c.in-Some.ensures) (ap (planned files) (sym c.as_bytes.ensures.value) ∙ c.in_ok-plan.ensures.planned tells) on in
+    absurd (cc (told, is))

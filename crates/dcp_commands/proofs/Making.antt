@@ -1,0 +1,118 @@
+-- How a run of `make` ends, from how its parts end.
+use Rattle.std.proofs.Common.{◌≡◌, ◌≢◌, ◌⊎◌, ℕ, ◌+◌, ◌≤◌, Bool, true, false, cond, List, [], ◌∷◌, ◌++◌, length, Option, Some, None, Result, Ok, Err, inl, inr, refl, ap, subst, sym, ◌∙◌, arith}
+use Rattle.std.specs.Prelude.{IfOk, IsFalse, IsSome, IsTrue, unwrap_or}
+use Rattle.film_project.specs.Facts.{ProjectFacts}
+use Rattle.make_engine.specs.Package.{Files, frames_size, is_built, picture_of}
+use Rattle.make_engine.specs.declared.outcome.BadWhy.{BadWhy}
+use Rattle.make_engine.specs.declared.outcome.MakeEnd.{MakeEnd}
+use Rattle.make_engine.specs.declared.outcome.MakeEnd.TheVariants as make_end
+use Rattle.make_engine.specs.declared.outcome.Report.{Report}
+use Rattle.mast_world.specs.Count.{HasRisen, counted}
+use Rattle.dcp_commands.specs.Inputs.{planned}
+use Rattle.dcp_commands.specs.Line.{IsPrinted}
+use Rattle.dcp_commands.specs.Make.{Answers, IsEarly, checked, frames_of, input_size, make_status, package_of, status_of, with_plan}
+use Rattle.dcp_commands.specs.Words.{MakeWords, make_words}
+use Rattle.dcp_commands.specs.declared.status.Status.{Status}
+use Rattle.dcp_commands.specs.declared.status.Status.TheVariants.{Done, Usage, ProjectRefused, InputMissing, InputShort, SourceFault, StoreFault, SinkFault, NoMemory, BadFrame, Unbuilt}
+
+pub counted-counted : (c a b : ℕ) → counted (counted c a) b ≡ counted c (a + b)
+counted-counted c a b = omega arith
+
+-- words and inputs that give a project leave what isn't built
+pub checked_by : (files : Files) (words : List (List ℕ)) (asked : MakeWords) (project : ProjectFacts) → make_words words ≡ Some asked → planned files asked.project ≡ Ok project → checked files words ≡ with_plan (Ok project)
+checked_by files words asked project accepted is = rw (accepted, is) refl
+
+-- what is made is built
+pub built : (b : Bool) (made : Result Report MakeEnd) (report : Report) → made ≡ Ok report → (IsFalse b → (made ≡ Err make_end.Unbuilt) ⊎ (made ≡ Err make_end.NoMemory)) → b ≡ true
+built true made report is ends = refl
+built false made report is ends = elim (ends refl) [ inl unbuilt ↦ absurd (cc) | inr memory ↦ absurd (cc) ]
+
+pub checked_built : (files : Files) (words : List (List ℕ)) (asked : MakeWords) (project : ProjectFacts) → make_words words ≡ Some asked → planned files asked.project ≡ Ok project → is_built project ≡ true → checked files words ≡ Ok project
+checked_built files words asked project accepted is on = checked_by files words asked project accepted is ∙ ap (λ b. cond b (Ok project) (Err Unbuilt)) on
+
+pub package_is : (files : Files) (words : List (List ℕ)) (project : ProjectFacts) (picture : List ℕ) → checked files words ≡ Ok project → picture_of files project ≡ Some picture → package_of files words ≡ Some picture
+package_is files words project picture told is = rw told is
+
+pub frames_are : (files : Files) (words : List (List ℕ)) (project : ProjectFacts) → checked files words ≡ Ok project → frames_of files words ≡ Some project.frames
+frames_are files words project told = rw told refl
+
+pub input_is : (files : Files) (words : List (List ℕ)) (asked : MakeWords) (project : ProjectFacts) → make_words words ≡ Some asked → checked files words ≡ Ok project → input_size files words ≡ length (unwrap_or (files asked.project) []) + frames_size files project
+input_is files words asked project accepted told = rw (told, accepted) refl
+
+-- a project that isn't built ends so, or for want of memory
+pub ended_unbuilt : (b : Bool) (project : ProjectFacts) (status : Status) (made : Result Report MakeEnd) (end : MakeEnd) → cond b (Ok project) (Err Unbuilt) ≡ Err status → made ≡ Err end → (IsFalse b → (made ≡ Err make_end.Unbuilt) ⊎ (made ≡ Err make_end.NoMemory)) → (make_status end ≡ status) ⊎ (make_status end ≡ NoMemory)
+ended_unbuilt true project status made end is was ends = absurd (cc)
+ended_unbuilt false project status made end is was ends = elim (ends refl) [
+  | inl unbuilt ↦ (let same : end ≡ make_end.Unbuilt = cc in inl (ap make_status same ∙ cc))
+  | inr memory ↦ (let same : end ≡ make_end.NoMemory = cc in inr (ap make_status same))
+]
+
+pub missing_end : (end : MakeEnd) (name : List ℕ) → make_status end ≡ InputMissing name → end ≡ make_end.InputMissing name
+missing_end (make_end.InputMissing n) name h = ap make_end.InputMissing (cc)
+missing_end (make_end.BadFrame f why) name h = absurd (cc)
+missing_end make_end.SourceFault name h = absurd (cc)
+missing_end make_end.StoreFault name h = absurd (cc)
+missing_end make_end.Unbuilt name h = absurd (cc)
+missing_end make_end.NoMemory name h = absurd (cc)
+
+pub bad_end : (end : MakeEnd) (frame : ℕ) (why : BadWhy) → make_status end ≡ BadFrame frame why → end ≡ make_end.BadFrame frame why
+bad_end (make_end.InputMissing n) frame why h = absurd (cc)
+bad_end (make_end.BadFrame f w) frame why h = cc
+bad_end make_end.SourceFault frame why h = absurd (cc)
+bad_end make_end.StoreFault frame why h = absurd (cc)
+bad_end make_end.Unbuilt frame why h = absurd (cc)
+bad_end make_end.NoMemory frame why h = absurd (cc)
+
+pub early_end : (end : MakeEnd) → IsEarly (make_status end) → end ≡ make_end.Unbuilt
+early_end (make_end.InputMissing n) early = absurd early
+early_end (make_end.BadFrame f w) early = absurd early
+early_end make_end.SourceFault early = absurd early
+early_end make_end.StoreFault early = absurd early
+early_end make_end.Unbuilt early = refl
+early_end make_end.NoMemory early = absurd early
+
+not_some : {A : Type 0} (o : Option A) → IsSome o → o ≡ None → ⊥
+not_some None some none = absurd (cc)
+not_some (Some a) some none = cc
+
+-- a project without a package isn't built, or its frames can't be shown
+pub package_from : (files : Files) (words : List (List ℕ)) (project : ProjectFacts) (b : Bool) → checked files words ≡ cond b (Ok project) (Err Unbuilt) → IsSome (package_of files words) → (b ≡ true) × IsSome (picture_of files project)
+package_from files words project true told some =
+    let is : package_of files words ≡ picture_of files project = rw told refl in
+    (refl, subst (λ picture. IsSome picture) is some)
+package_from files words project false told some = absurd (not_some (package_of files words) some (rw told refl))
+
+-- what is printed under another status than `Done` doesn't depend on what is printed where the command is done
+pub printed_other : (a b : List ℕ) (status : Status) (before now : List ℕ) → (status ≡ Done → ⊥) → IsPrinted a status before now → IsPrinted b status before now
+printed_other a b Done before now other is = absurd (other refl)
+printed_other a b Usage before now other is = is
+printed_other a b (ProjectRefused r) before now other is = is
+printed_other a b (InputMissing n) before now other is = is
+printed_other a b (InputShort x s n) before now other is = is
+printed_other a b SourceFault before now other is = is
+printed_other a b StoreFault before now other is = is
+printed_other a b SinkFault before now other is = is
+printed_other a b NoMemory before now other is = is
+printed_other a b (BadFrame f w) before now other is = is
+printed_other a b Unbuilt before now other is = is
+
+-- what another status is answered as isn't `Done`
+pub not_done : (result status : Status) → Answers result status → (status ≡ Done → ⊥) → result ≡ Done → ⊥
+not_done result status (inl same) other done = other (sym same ∙ done)
+not_done result status (inr (inl sink)) other done = cc
+not_done result status (inr (inr memory)) other done = cc
+
+-- what ends otherwise is built
+pub built_unless : (b : Bool) (made : Result Report MakeEnd) (end : MakeEnd) → made ≡ Err end → (end ≡ make_end.Unbuilt → ⊥) → (end ≡ make_end.NoMemory → ⊥) → (IsFalse b → (made ≡ Err make_end.Unbuilt) ⊎ (made ≡ Err make_end.NoMemory)) → b ≡ true
+built_unless true made end was unbuilt memory ends = refl
+built_unless false made end was unbuilt memory ends = elim (ends refl) [ inl is ↦ absurd (unbuilt (cc)) | inr is ↦ absurd (memory (cc)) ]
+
+pub risen_later : (before between now : ℕ) → before ≤ between → HasRisen between now → HasRisen before now
+risen_later before between now kept risen = omega (arith, kept, risen)
+
+-- what is answered as `Done` was made
+pub done_is : {T : Type 0} (outcome : Result T Status) (result : Status) → Answers result (status_of outcome) → (outcome ≡ Err Done → ⊥) → result ≡ Done → (made : T) × (outcome ≡ Ok made)
+done_is (Ok made) result answer other done = (made, refl)
+done_is (Err status) result (inl same) other done = absurd (other (ap Err (sym same ∙ done)))
+done_is (Err status) result (inr (inl sink)) other done = absurd (cc)
+done_is (Err status) result (inr (inr memory)) other done = absurd (cc)

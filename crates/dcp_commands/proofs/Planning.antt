@@ -1,0 +1,107 @@
+-- How planning ends, step by step.
+use Rattle.std.proofs.Common.{◌≡◌, ◌≢◌, ℕ, zero, suc, ◌+◌, ◌-◌, ◌<◌, Bool, true, false, ◌||◌, ◌==◌, nat_lt, cond, List, [], ◌∷◌, ◌++◌, length, map, get_or, Option, Some, None, Result, Ok, Err, refl, ap, sym, ◌∙◌, add-one, arith}
+use Rattle.std.proofs.lemmas.Bool.Decides.{nat_tests}
+use Rattle.std.specs.List.{list_any}
+use Rattle.std.specs.Option.{option_or}
+use Rattle.film_plan.specs.Needs.{Short, first_short, need_of, short_from}
+use Rattle.film_plan.specs.declared.refusal.PlanRefusal.{PlanRefusal}
+use Rattle.film_plan.specs.declared.refusal.PlanRefusal.TheVariants as plan
+use Rattle.film_project.specs.Accepts.{accepts}
+use Rattle.film_project.specs.Facts.{AssetFacts, ProjectFacts}
+use Rattle.film_project.specs.Plain.{picture_facts, project_facts, sound_facts}
+use Rattle.film_project.specs.declared.clip.PictureClip.{PictureClip}
+use Rattle.film_project.specs.declared.clip.SoundClip.{SoundClip}
+use Rattle.film_project.specs.declared.project.Project.{Project}
+use Rattle.film_project.specs.declared.refusal.ProjectRefusal.{ProjectRefusal}
+use Rattle.film_project.specs.declared.refusal.ProjectRefusal.TheVariants.{FileTooLong}
+use Rattle.make_engine.specs.Package.{Files}
+use Rattle.dcp_commands.specs.Inputs.{is_named, missing_at, missing_before, missing_input, planned, short_end, sizes_of, with_project, with_inputs, with_text}
+use Rattle.dcp_commands.specs.declared.inputs.PlanEnd.{PlanEnd}
+use Rattle.dcp_commands.specs.declared.inputs.PlanEnd.TheVariants.{InputMissing, InputShort, ProjectRefused}
+
+both : (t a b : Bool) → a ≡ b → (t || a) ≡ (t || b)
+both t a b is = ap (λ v. t || v) is
+
+-- a test of some items, made of what is seen of them
+pub list_any_mapped : {X Y : Type 0} (g : X → Y) (p : Y → Bool) (xs : List X) → list_any (λ x. p (g x)) xs ≡ list_any p (map g xs)
+list_any_mapped g p [] = refl
+list_any_mapped g p (x ∷ xs) = both (p (g x)) (list_any (λ y. p (g y)) xs) (list_any p (map g xs)) (list_any_mapped g p xs)
+
+pub planned_missing : (files : Files) (name : List ℕ) → files name ≡ None → planned files name ≡ Err (InputMissing name)
+planned_missing files name gone = rw gone refl
+
+too_long : (text : List ℕ) → 8388608 < length text → accepts text ≡ Err (FileTooLong (length text))
+too_long text long = grind (arith, nat_tests)
+
+pub planned_too_long : (files : Files) (name text : List ℕ) → files name ≡ Some text → 8388608 < length text → planned files name ≡ Err (ProjectRefused (FileTooLong (length text)))
+planned_too_long files name text found long = rw (found, too_long text long) refl
+
+pub planned_refused : (files : Files) (name text : List ℕ) (refusal : ProjectRefusal) → files name ≡ Some text → accepts text ≡ Err refusal → planned files name ≡ Err (ProjectRefused refusal)
+planned_refused files name text refusal found refused = rw (found, refused) refl
+
+pub planned_input : (files : Files) (name text missing : List ℕ) (project : ProjectFacts) → files name ≡ Some text → accepts text ≡ Ok project → missing_input files project ≡ Some missing → planned files name ≡ Err (InputMissing missing)
+planned_input files name text missing project found told gone = rw (found, told, gone) refl
+
+pub planned_short : (files : Files) (name text : List ℕ) (project : ProjectFacts) (short : Short) → files name ≡ Some text → accepts text ≡ Ok project → missing_input files project ≡ None → first_short project (sizes_of files project) ≡ Some short → planned files name ≡ Err (InputShort short.asset short.size short.need)
+planned_short files name text project short found told there is = rw (found, told, there, is) refl
+
+pub planned_ok : (files : Files) (name text : List ℕ) (project : ProjectFacts) → files name ≡ Some text → accepts text ≡ Ok project → missing_input files project ≡ None → first_short project (sizes_of files project) ≡ None → planned files name ≡ Ok project
+planned_ok files name text project found told there enough = rw (found, told, there, enough) refl
+
+-- one asset more
+pub missing_more : (files : Files) (project : ProjectFacts) (n : ℕ) → missing_before files project n ≡ None → missing_before files project (n + 1) ≡ missing_at files project n
+missing_more files project n none =
+    ap (missing_before files project) (add-one n) ∙ ap (λ o. option_or o (missing_at files project n)) none
+
+-- the first one that isn't there stays the first one
+pub missing_stays : (files : Files) (project : ProjectFacts) (name : List ℕ) (n k : ℕ) → missing_before files project n ≡ Some name → missing_before files project (n + k) ≡ Some name
+missing_stays files project name n zero is = (let e : n + 0 ≡ n = omega arith in ap (missing_before files project) e ∙ is)
+missing_stays files project name n (suc k) is =
+    let e : n + suc k ≡ suc (n + k) = omega arith in
+    ap (missing_before files project) e ∙ ap (λ o. option_or o (missing_at files project (n + k))) (missing_stays files project name n k is)
+
+-- the first one that isn't there is that of the whole
+pub missing_found : (files : Files) (project : ProjectFacts) (name : List ℕ) (place : ℕ) → place < length project.assets → missing_before files project place ≡ None → missing_at files project place ≡ Some name → missing_input files project ≡ Some name
+missing_found files project name place below none is =
+    let k = length project.assets - (place + 1) in
+    let e : length project.assets ≡ place + 1 + k = omega (arith, below) in
+    ap (missing_before files project) e ∙ missing_stays files project name (place + 1) k (missing_more files project place none ∙ is)
+
+-- whether a clip names the asset, as the clips themselves tell
+shown_is : (project : Project) (place : ℕ) (clips : List PictureClip) (shown : Bool) → clips ≡ project.picture → shown ≡ list_any (λ clip. clip.asset == place) clips → list_any (λ clip. clip.asset == place) (map picture_facts project.picture) ≡ shown
+shown_is project place clips shown same is =
+    sym (list_any_mapped picture_facts (λ clip. clip.asset == place) project.picture)
+    ∙ ap (list_any (λ clip. clip.asset == place)) (sym same)
+    ∙ sym is
+
+played_is : (project : Project) (place : ℕ) (clips : List SoundClip) (played : Bool) → clips ≡ project.sound → played ≡ list_any (λ clip. clip.asset == place) clips → list_any (λ clip. clip.asset == place) (map sound_facts project.sound) ≡ played
+played_is project place clips played same is =
+    sym (list_any_mapped sound_facts (λ clip. clip.asset == place) project.sound)
+    ∙ ap (list_any (λ clip. clip.asset == place)) (sym same)
+    ∙ sym is
+
+pub named_shown : (project : Project) (place : ℕ) (clips : List PictureClip) (shown : Bool) → clips ≡ project.picture → shown ≡ list_any (λ clip. clip.asset == place) clips → shown ≡ true → shown ≡ is_named (project_facts project) place
+named_shown project place clips shown same is on =
+    on ∙ sym (ap (λ t. t || list_any (λ clip. clip.asset == place) (map sound_facts project.sound)) (shown_is project place clips shown same is ∙ on))
+
+pub named_played : (project : Project) (place : ℕ) (pictures : List PictureClip) (sounds : List SoundClip) (shown played : Bool) → pictures ≡ project.picture → shown ≡ list_any (λ clip. clip.asset == place) pictures → shown ≡ false → sounds ≡ project.sound → played ≡ list_any (λ clip. clip.asset == place) sounds → played ≡ is_named (project_facts project) place
+named_played project place pictures sounds shown played same is not_shown same_sound sound_is =
+    sym (ap (λ t. t || list_any (λ clip. clip.asset == place) (map sound_facts project.sound)) (shown_is project place pictures shown same is ∙ not_shown) ∙ played_is project place sounds played same_sound sound_is)
+
+less_here : (t : Bool) (asset : List ℕ) (size need : ℕ) (later : Option Short) (short : Short) → nat_lt size need ≡ t → cond t (Some (record { asset = asset; size = size; need = need })) later ≡ Some short → (later ≡ Some short → short.size < short.need) → short.size < short.need
+less_here true asset size need later short less is rest = grind (arith, nat_tests)
+less_here false asset size need later short less is rest = rest is
+
+less_from : (project : ProjectFacts) (place : ℕ) (assets : List AssetFacts) (sizes : List ℕ) (short : Short) → short_from project place assets sizes ≡ Some short → short.size < short.need
+less_from project place [] sizes short is = absurd (cc)
+less_from project place (asset ∷ assets) [] short is = absurd (cc)
+less_from project place (asset ∷ assets) (size ∷ sizes) short is =
+    less_here (nat_lt size (need_of project place asset)) asset.id size (need_of project place asset) (short_from project (place + 1) assets sizes) short refl is (less_from project (place + 1) assets sizes short)
+
+-- the size of an asset that is short is below its need
+pub less_than_need : (project : ProjectFacts) (sizes : List ℕ) (asset : List ℕ) (size need : ℕ) → first_short project sizes ≡ Some (record { asset = asset; size = size; need = need }) → size < need
+less_than_need project sizes asset size need is = less_from project 0 project.assets sizes (record { asset = asset; size = size; need = need }) is
+
+pub short_end_is : (refusal : PlanRefusal) (asset : List ℕ) (size need : ℕ) → short_end refusal ≡ InputShort asset size need → refusal ≡ plan.InputShort asset size need
+short_end_is (plan.InputShort a s n) asset size need is = cc
+short_end_is plan.NoMemory asset size need is = absurd (cc)

@@ -1,0 +1,22 @@
+use Rattle.std.proofs.Common.{◌≡◌, ◌++◌, length, map, ap, ◌∙◌, arith, rules}
+use Rattle.std.proofs.lemmas.List.FromFn.{length-map-range_with_len}
+use Rattle.film_plan.specs.Plan.{limits_of}
+use Rattle.film_project.specs.Plain.{picture_facts, project_facts}
+use Rattle.film_timeline.specs.Timeline.{cell_at}
+use Rattle.dcp_commands.specs.Plan.{count_text, limit_text, size_text}
+use Rattle.dcp_commands.proofs.plan_text.plan_text.Goals as goal
+
+pub count_text-requires : goal.count_text-requires
+count_text-requires c =
+    let plan = c.args.plan.now in
+    let count = ap length (c.as_slice.ensures ∙ plan.cells_are) ∙ length-map-range_with_len (cell_at (map picture_facts plan.project.picture)) 0 plan.project.frames in
+    omega (arith, count, plan.project.most_frames)
+
+pub returns : goal.returns
+returns c =
+    let plan = c.args.plan.now in
+    let project = project_facts plan.project in
+    let written : c.extend_from_slice-2.new.self.items ≡ size_text project ++ limit_text plan.limits ++ count_text plan.cells = search rules in
+    written
+    ∙ ap (λ limits. size_text project ++ limit_text limits ++ count_text plan.cells) plan.limits_are
+    ∙ ap (λ cells. size_text project ++ limit_text (limits_of project) ++ count_text cells) plan.cells_are

@@ -1,0 +1,46 @@
+-- What `plan` prints.
+use Rattle.std.specs.Prelude.{◌≡◌, ◌⊎◌, ℕ, codes, List, [], ◌∷◌, ◌++◌, length, filter, Option, Some, None, Result, Ok, Err}
+use Rattle.std.specs.Fmt.{decimal}
+use Rattle.film_plan.specs.Plan.{limits_of}
+use Rattle.film_project.specs.Facts.{ProjectFacts}
+use Rattle.film_timeline.specs.Timeline.{cells_of, fresh_cells, is_black}
+use Rattle.film_timeline.specs.declared.cell.Cell.{Cell}
+use Rattle.make_engine.specs.Package.{Files}
+use Rattle.mast_world.specs.declared.picture.Limits.{Limits}
+use Rattle.dcp_commands.specs.Inputs.{planned}
+use Rattle.dcp_commands.specs.Make.{plan_status}
+use Rattle.dcp_commands.specs.Words.{plan_words}
+use Rattle.dcp_commands.specs.declared.inputs.PlanEnd.{PlanEnd}
+use Rattle.dcp_commands.specs.declared.status.Status.{Status}
+use Rattle.dcp_commands.specs.declared.status.Status.TheVariants.{Done, Usage}
+
+abbrev pub size_text : ProjectFacts → List ℕ
+size_text project =
+    codes "frames " ++ (decimal project.frames ++ (codes "\nsize " ++ (decimal project.width ++ (codes "x" ++ (decimal project.height
+    ++ (codes "\nfps " ++ (decimal project.fps ++ codes "\n")))))))
+
+abbrev pub limit_text : Limits → List ℕ
+limit_text limits = codes "limit " ++ (decimal limits.frame ++ (codes "\ncomponent " ++ (decimal limits.component ++ codes "\n")))
+
+abbrev pub count_text : List Cell → List ℕ
+count_text cells = codes "fresh " ++ (decimal (length (fresh_cells cells)) ++ (codes "\nblack " ++ decimal (length (filter is_black cells))))
+
+-- its lines; the last one ends where the status' line ends
+abbrev pub plan_text : ProjectFacts → List ℕ
+plan_text project = size_text project ++ limit_text (limits_of project) ++ count_text (cells_of project)
+
+abbrev pub of_plan : Result ProjectFacts PlanEnd → Result ProjectFacts Status
+of_plan (Ok project) = Ok project
+of_plan (Err end) = Err (plan_status end)
+
+abbrev pub with_name : Files → Option (List ℕ) → Result ProjectFacts Status
+with_name files None = Err Usage
+with_name files (Some name) = of_plan (planned files name)
+
+-- the project that the words of `plan` name, or how the command ends
+abbrev pub checked_plan : Files → List (List ℕ) → Result ProjectFacts Status
+checked_plan files words = with_name files (plan_words words)
+
+abbrev pub status_in : Result ProjectFacts Status → Status
+status_in (Ok project) = Done
+status_in (Err status) = status
