@@ -1,5 +1,5 @@
 -- What a plan has beside its project.
-use Rattle.std.specs.Prelude.{ℕ, ◌*◌, ◌/◌, codes, List, [], ◌∷◌, ◌++◌, take}
+use Rattle.std.specs.Prelude.{ℕ, ◌*◌, ◌/◌, codes, List, ◌∷◌, ◌++◌, take}
 use Rattle.film_project.specs.Canonical.{canonical_text}
 use Rattle.film_project.specs.Facts.{ProjectFacts}
 use Rattle.mast_world.specs.declared.picture.Limits.{Limits}

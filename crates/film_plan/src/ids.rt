@@ -1,3 +1,10 @@
+ghost use Rattle.std.specs.Prelude.{◌≡◌};
+ghost use Rattle.film_plan.specs.Plan as spec;
+ghost use Rattle.film_project.specs.Plain.{project_facts};
+
+use film_project::Project;
+use uuid::Uuid;
+
 /// The identifiers of the package's parts: version 5 UUIDs (RFC 9562 section 5.5) under the
 /// project's namespace.
 #[derive(Clone, Copy, Debug, PartialEq, Eq)]
@@ -11,4 +18,23 @@ pub struct Ids {
     pub reel: [u8; 16],
     pub picture: [u8; 16],
     pub sound: [u8; 16],
+}
+
+pub fn ids_of(project: &Project) -> Ids
+    ensures { result ≡ spec.ids_of (project_facts project.now) }
+{
+    Ids {
+        cpl: id_of(project, b"cpl"),
+        pkl: id_of(project, b"pkl"),
+        map: id_of(project, b"map"),
+        reel: id_of(project, b"reel-1"),
+        picture: id_of(project, b"picture-1"),
+        sound: id_of(project, b"sound-1"),
+    }
+}
+
+fn id_of(project: &Project, name: &[u8]) -> [u8; 16]
+    ensures { result ≡ spec.id_of (project_facts project.now) name.now }
+{
+    Uuid::new_v5(&Uuid::from_bytes(project.namespace), name).into_bytes()
 }

@@ -4,6 +4,7 @@
 
 mod ids;
 mod job;
+mod needs;
 mod planning;
 mod refusal;
 
@@ -11,3 +12,6 @@ pub use ids::Ids;
 pub use job::Plan;
 pub use planning::plan;
 pub use refusal::PlanRefusal;
+
+#[cfg(test)]
+mod tests;
