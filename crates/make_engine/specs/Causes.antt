@@ -1,5 +1,5 @@
 -- Why no package was made.
-use Rattle.std.specs.Prelude.{◌≡◌, ℕ, ◌<◌, List, length, take, slice_get, Option, Some, None, option_map, IsSome}
+use Rattle.std.specs.Prelude.{◌≡◌, ℕ, ◌<◌, List, length, take, slice_get, Some, None, option_map, IsSome}
 use Rattle.film_plan.specs.Plan.{limits_of}
 use Rattle.film_project.specs.Facts.{ProjectFacts}
 use Rattle.film_timeline.specs.Timeline.{cells_of, IsFresh}

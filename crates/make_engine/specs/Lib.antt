@@ -1,3 +1,4 @@
 pub mod Causes
+pub mod Engine
 pub mod Item
 pub mod Package

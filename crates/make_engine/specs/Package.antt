@@ -1,7 +1,7 @@
 -- The package of a project, frame by frame.
-use Rattle.std.specs.Prelude.{ℕ, ◌+◌, ◌-◌, ◌==◌, ◌&&◌, Bool, true, false, codes, List, [], ◌∷◌, ◌++◌, length, map, sum_by, replicate, nat_le, slice_get, slice_index_or, if◌then◌else◌, Option, Some, None, option_map, option_and_then, unwrap_or}
+use Rattle.std.specs.Prelude.{ℕ, ◌-◌, ◌==◌, ◌&&◌, Bool, true, false, codes, List, [], ◌∷◌, ◌++◌, length, sum_by, replicate, nat_le, slice_index_or, if◌then◌else◌, Option, Some, None, option_map, option_and_then, unwrap_or}
 use Rattle.std.specs.Fmt.{decimal}
-use Rattle.std.specs.List.{flat_map, list_all, range_with_len}
+use Rattle.std.specs.List.{flat_map, list_all}
 use Rattle.film_plan.specs.Plan.{limits_of}
 use Rattle.film_project.specs.Canonical.{no_asset}
 use Rattle.film_project.specs.Facts.{AssetFacts, ProjectFacts}

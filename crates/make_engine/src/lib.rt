@@ -2,7 +2,11 @@
 #![tactic(auto)]
 
 mod engine;
+mod frame;
+mod item;
+mod name;
 mod outcome;
+mod ready;
 
 pub use engine::make_alone;
 pub use outcome::{BadWhy, MakeEnd, Options, Report};

@@ -1,0 +1,63 @@
+use Rattle.std.proofs.Common.{◌≡◌, ℕ, ◌∙◌, [], refl, ap, subst, arith, length, take}
+use Rattle.std.proofs.lemmas.List.{length-append, length-take-le}
+use Rattle.film_project.specs.Plain.{project_facts}
+use Rattle.make_engine.specs.Engine.{HasCopied, TakesItem}
+use Rattle.make_engine.proofs.Frames.{HasCopied_more, counted_next, held_next}
+use Rattle.make_engine.specs.declared.engine.TheConstants.{PICTURE}
+use Rattle.make_engine.proofs.engine.copy_frames.Goals as goal
+
+pub loop-frame-init : goal.loop-frame-init
+loop-frame-init g c = record {
+  small = omega arith;
+  place = λ tells. ap length (c.requires.empty tells);
+  held_size = omega arith;
+  held = λ tells later. absurd (omega (arith, later));
+  copied = λ tells. record { values = []; fresh = []; shown = refl; read = refl; written = λ told. c.requires.empty told; taken = omega arith };
+  put = omega arith;
+  other_put = λ file other. refl;
+  files = refl;
+  faults = omega arith;
+  volume_faults = omega arith;
+  absent = omega arith;
+}
+
+pub take_item-requires-clause-held : goal.take_item-requires-clause-held
+take_item-requires-clause-held g c = λ tells later. rw c.loop-frame.invariant.files (c.loop-frame.invariant.held tells later)
+
+pub loop-frame-preserved : goal.loop-frame-preserved
+loop-frame-preserved g c =
+    let before = c.loop-frame.invariant in
+    let step = c.in_ok-held.ensures in
+    let end = c.in_ok-append.ensures in
+    let small = before.small in
+    let files = g.S.Source.file c.args.source.now in
+    let project = project_facts c.args.plan.now.project in
+    let held = c.in_ok-held.held in
+    let item = take held c.take_item.new.room in
+    let size : length item ≡ held = length-take-le held c.take_item.new.room (omega (arith, step.size, c.take_item.auto.room)) in
+    let taken = g.S.Source.taken c.loop-frame.source in
+    let now = g.S.Source.taken c.take_item.new.source in
+    let took : g.S.Source.tells → TakesItem files project c.loop-frame.frame item taken now = λ tells. rw (← before.files) (step.item tells) in
+    record {
+      small = omega (arith, step.size);
+      place = λ tells. ap length (end.written tells) ∙ length-append (g.V.Volume.reads c.loop-frame.volume PICTURE) item ∙ omega (arith, before.place tells);
+      held_size = step.size;
+      held = λ tells _. held_next files project c.loop-frame.frame item taken now (took tells);
+      copied = λ tells.
+          HasCopied_more g.V.Volume.tells files project c.loop-frame.frame
+          (g.V.Volume.reads c.loop-frame.volume PICTURE) (g.V.Volume.reads c.append.new.volume PICTURE) item
+          (g.S.Source.taken c.args.source.now) taken now
+          (before.copied tells) (took tells) end.written;
+      put = counted_next (g.V.Volume.put c.args.volume.now PICTURE) c.loop-frame.place (length item) held (g.V.Volume.put c.loop-frame.volume PICTURE) (g.V.Volume.put c.append.new.volume PICTURE) end.count_put size before.put;
+      other_put = λ file other. end.other_put file other ∙ before.other_put file other;
+      files = step.same_files ∙ before.files;
+      faults = omega (arith, before.faults, step.faults_kept);
+      volume_faults = omega (arith, before.volume_faults, end.faults_kept);
+      absent = omega (arith, before.absent, step.absent_kept);
+    }
+
+pub returns-clause-copied : goal.returns-clause-copied
+returns-clause-copied g c = λ tells.
+    let e : c.loop-frame.frame ≡ c.args.plan.now.project.frames = omega arith in
+    subst (λ (f : ℕ). HasCopied g.V.Volume.tells (g.S.Source.file c.args.source.now) (project_facts c.args.plan.now.project) f (g.V.Volume.reads c.loop-frame.volume PICTURE) (g.S.Source.taken c.args.source.now) (g.S.Source.taken c.loop-frame.source)) e
+    (c.loop-frame.invariant.copied tells)

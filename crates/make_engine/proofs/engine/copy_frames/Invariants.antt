@@ -1,0 +1,28 @@
+use Rattle.std.proofs.Common.{◌≡◌, ◌≢◌, ◌≤◌, ◌<◌, ◌*◌, ◌-◌, length, take}
+use Rattle.film_project.specs.Plain.{project_facts}
+use Rattle.mast_world.specs.Count.{counted}
+use Rattle.mast_world.specs.declared.volume.FileId.{FileId}
+use Rattle.make_engine.specs.Engine.{HasCopied, IsItemAt}
+use Rattle.make_engine.specs.declared.engine.TheConstants.{PICTURE}
+use Rattle.make_engine.specs.declared.item.TheConstants.{ROOM}
+use Rattle.make_engine.proofs.engine.copy_frames.Given as goal
+
+-- what the frames so far left
+abbrev pub invariant-loop-frame : goal.invariant-loop-frame
+invariant-loop-frame g l =
+    let source = g.S.Source in
+    let volume = g.V.Volume in
+    let project = project_facts l.plan.project in
+    record {
+      small : l.place ≤ l.frame * ROOM;
+      place : volume.tells → length (volume.reads l.volume PICTURE) ≡ l.place;
+      held_size : l.held ≤ ROOM;
+      held : source.tells → 0 < l.frame → IsItemAt (source.file l.fn.source) project (l.frame - 1) (take l.held l.room);
+      copied : source.tells → HasCopied volume.tells (source.file l.fn.source) project l.frame (volume.reads l.volume PICTURE) (source.taken l.fn.source) (source.taken l.source);
+      put : volume.put l.volume PICTURE ≡ counted (volume.put l.fn.volume PICTURE) l.place;
+      other_put : (file : FileId) → file ≢ PICTURE → volume.put l.volume file ≡ volume.put l.fn.volume file;
+      files : source.file l.source ≡ source.file l.fn.source;
+      faults : source.faults l.fn.source ≤ source.faults l.source;
+      volume_faults : volume.faults l.fn.volume ≤ volume.faults l.volume;
+      absent : source.absent l.fn.source ≤ source.absent l.source;
+    }
