@@ -1,7 +1,7 @@
 //! `dcp`: makes cinema packages.
 #![tactic(auto)]
 
-use dcp_commands::{out_name, run_make};
+use dcp_commands::{out_name, run, run_make};
 use mast_real::{FolderSource, FolderVolume, StdSink};
 use mast_world::Bytes;
 use std::alloc::{AllocError, Global};
@@ -30,21 +30,34 @@ fn folder_of(alloc: Global, name: Option<Bytes>) -> Result<String, AllocError> {
     }
 }
 
-fn run(rt: &HostRuntime) -> io::Result<u8> {
+/// Runs `make` over the output folder that the words name.
+fn make_in_folder(
+    rt: &HostRuntime,
+    words: &[String],
+    source: &mut FolderSource<HostRuntime>,
+    out: &mut StdSink<HostRuntime>,
+) -> io::Result<u8> {
     let alloc = rt.alloc();
-    let words = read_words(rt)?;
-    let Ok(name) = out_name(alloc, &words) else {
+    let Ok(name) = out_name(alloc, words) else {
         return Ok(NO_MEMORY);
     };
-    let mut source = FolderSource::new(rt.clone()?);
     let mut volume = FolderVolume::new(rt.clone()?, alloc, folder_of(alloc, name)?);
+    Ok(run_make(alloc, words, source, &mut volume, out).exit_code())
+}
+
+fn run_words(rt: &HostRuntime) -> io::Result<u8> {
+    let words = read_words(rt)?;
+    let mut source = FolderSource::new(rt.clone()?);
     let mut out = StdSink::new(rt.clone()?);
-    let status = run_make(alloc, &words, &mut source, &mut volume, &mut out);
-    Ok(status.exit_code())
+    if words.first().is_some_and(|word| word.as_str() == "make") {
+        make_in_folder(rt, &words, &mut source, &mut out)
+    } else {
+        Ok(run(rt.alloc(), &words, &mut source, &mut out).exit_code())
+    }
 }
 
 fn main(rt: HostRuntime) -> ExitCode {
-    match run(&rt) {
+    match run_words(&rt) {
         Ok(code) => ExitCode::from(code),
         Err(_) => ExitCode::from(NO_MEMORY),
     }

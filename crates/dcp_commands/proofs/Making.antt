@@ -23,9 +23,9 @@ pub checked_by : (files : Files) (words : List (List ℕ)) (asked : MakeWords) (
 checked_by files words asked project accepted is = rw (accepted, is) refl
 
 -- what is made is built
-pub built : (b : Bool) (made : Result Report MakeEnd) (report : Report) → made ≡ Ok report → (IsFalse b → (made ≡ Err make_end.Unbuilt) ⊎ (made ≡ Err make_end.NoMemory)) → b ≡ true
+pub built : (b : Bool) (made : Result Report MakeEnd) (report : Report) → made ≡ Ok report → (IsFalse b → made ≡ Err make_end.Unbuilt) → b ≡ true
 built true made report is ends = refl
-built false made report is ends = elim (ends refl) [ inl unbuilt ↦ absurd (cc) | inr memory ↦ absurd (cc) ]
+built false made report is ends = absurd (cc (is, ends refl))
 
 pub checked_built : (files : Files) (words : List (List ℕ)) (asked : MakeWords) (project : ProjectFacts) → make_words words ≡ Some asked → planned files asked.project ≡ Ok project → is_built project ≡ true → checked files words ≡ Ok project
 checked_built files words asked project accepted is on = checked_by files words asked project accepted is ∙ ap (λ b. cond b (Ok project) (Err Unbuilt)) on
@@ -39,13 +39,10 @@ frames_are files words project told = rw told refl
 pub input_is : (files : Files) (words : List (List ℕ)) (asked : MakeWords) (project : ProjectFacts) → make_words words ≡ Some asked → checked files words ≡ Ok project → input_size files words ≡ length (unwrap_or (files asked.project) []) + frames_size files project
 input_is files words asked project accepted told = rw (told, accepted) refl
 
--- a project that isn't built ends so, or for want of memory
-pub ended_unbuilt : (b : Bool) (project : ProjectFacts) (status : Status) (made : Result Report MakeEnd) (end : MakeEnd) → cond b (Ok project) (Err Unbuilt) ≡ Err status → made ≡ Err end → (IsFalse b → (made ≡ Err make_end.Unbuilt) ⊎ (made ≡ Err make_end.NoMemory)) → (make_status end ≡ status) ⊎ (make_status end ≡ NoMemory)
+-- a project that isn't built ends so
+pub ended_unbuilt : (b : Bool) (project : ProjectFacts) (status : Status) (made : Result Report MakeEnd) (end : MakeEnd) → cond b (Ok project) (Err Unbuilt) ≡ Err status → made ≡ Err end → (IsFalse b → made ≡ Err make_end.Unbuilt) → make_status end ≡ status
 ended_unbuilt true project status made end is was ends = absurd (cc)
-ended_unbuilt false project status made end is was ends = elim (ends refl) [
-  | inl unbuilt ↦ (let same : end ≡ make_end.Unbuilt = cc in inl (ap make_status same ∙ cc))
-  | inr memory ↦ (let same : end ≡ make_end.NoMemory = cc in inr (ap make_status same))
-]
+ended_unbuilt false project status made end is was ends = (let same : end ≡ make_end.Unbuilt = cc (was, ends refl) in ap make_status same ∙ cc)
 
 pub missing_end : (end : MakeEnd) (name : List ℕ) → make_status end ≡ InputMissing name → end ≡ make_end.InputMissing name
 missing_end (make_end.InputMissing n) name h = ap make_end.InputMissing (cc)
@@ -103,9 +100,9 @@ not_done result status (inr (inl sink)) other done = cc
 not_done result status (inr (inr memory)) other done = cc
 
 -- what ends otherwise is built
-pub built_unless : (b : Bool) (made : Result Report MakeEnd) (end : MakeEnd) → made ≡ Err end → (end ≡ make_end.Unbuilt → ⊥) → (end ≡ make_end.NoMemory → ⊥) → (IsFalse b → (made ≡ Err make_end.Unbuilt) ⊎ (made ≡ Err make_end.NoMemory)) → b ≡ true
-built_unless true made end was unbuilt memory ends = refl
-built_unless false made end was unbuilt memory ends = elim (ends refl) [ inl is ↦ absurd (unbuilt (cc)) | inr is ↦ absurd (memory (cc)) ]
+pub built_unless : (b : Bool) (made : Result Report MakeEnd) (end : MakeEnd) → made ≡ Err end → (end ≡ make_end.Unbuilt → ⊥) → (IsFalse b → made ≡ Err make_end.Unbuilt) → b ≡ true
+built_unless true made end was other ends = refl
+built_unless false made end was other ends = absurd (other (cc (was, ends refl)))
 
 pub risen_later : (before between now : ℕ) → before ≤ between → HasRisen between now → HasRisen before now
 risen_later before between now kept risen = omega (arith, kept, risen)

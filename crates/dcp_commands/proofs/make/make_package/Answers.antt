@@ -23,10 +23,7 @@ returns-in_err-make_alone-clause-ended g c = λ status tells is.
     let end = c.in_err-make_alone.field-0.0 in
     let p = err_from_is_err_and c.from_residual-in_err-make_alone.result c.from_residual-in_err-make_alone.ensures.1 in
     let told = checked_by files words asked project (sym c.in-Some.ensures) (ap (planned files) (sym c.as_bytes.ensures.value) ∙ c.in_ok-plan.ensures.planned tells) in
-    elim (ended_unbuilt (is_built project) project status c.make_alone.result end (sym told ∙ is) c.in_err-make_alone.was c.make_alone.ensures.not_built) [
-      | inl same ↦ inl (p.1 ∙ ap Err (p.2 ∙ same))
-      | inr memory ↦ inr (inr (p.1 ∙ ap Err (p.2 ∙ memory)))
-    ]
+    inl (p.1 ∙ ap Err (p.2 ∙ ended_unbuilt (is_built project) project status c.make_alone.result end (sym told ∙ is) c.in_err-make_alone.was c.make_alone.ensures.not_built))
 
 pub returns-in_err-make_alone-clause-unwritten : goal.returns-in_err-make_alone-clause-unwritten
 returns-in_err-make_alone-clause-unwritten g c = λ status e early.
@@ -45,7 +42,7 @@ returns-in_err-make_alone-clause-missing g c = λ name e.
     let end = c.in_err-make_alone.field-0.0 in
     let p = err_from_is_err_and c.from_residual-in_err-make_alone.result c.from_residual-in_err-make_alone.ensures.1 in
     let ended = missing_end end name (cc (e, p.1, p.2)) in
-    let on = built_unless (is_built project) c.make_alone.result end c.in_err-make_alone.was (λ h. cc (h, ended)) (λ h. cc (h, ended)) c.make_alone.ensures.not_built in
+    let on = built_unless (is_built project) c.make_alone.result end c.in_err-make_alone.was (λ h. cc (h, ended)) c.make_alone.ensures.not_built in
     inr (record {
       project = project;
       told = λ tells. checked_built files words asked project (sym c.in-Some.ensures) (ap (planned files) (sym c.as_bytes.ensures.value) ∙ c.in_ok-plan.ensures.planned tells) on;
@@ -69,7 +66,7 @@ returns-in_err-make_alone-clause-bad g c = λ frame why e.
     let end = c.in_err-make_alone.field-0.0 in
     let p = err_from_is_err_and c.from_residual-in_err-make_alone.result c.from_residual-in_err-make_alone.ensures.1 in
     let ended = bad_end end frame why (cc (e, p.1, p.2)) in
-    let on = built_unless (is_built project) c.make_alone.result end c.in_err-make_alone.was (λ h. cc (h, ended)) (λ h. cc (h, ended)) c.make_alone.ensures.not_built in
+    let on = built_unless (is_built project) c.make_alone.result end c.in_err-make_alone.was (λ h. cc (h, ended)) c.make_alone.ensures.not_built in
     record {
       project = project;
       told = λ tells. checked_built files words asked project (sym c.in-Some.ensures) (ap (planned files) (sym c.as_bytes.ensures.value) ∙ c.in_ok-plan.ensures.planned tells) on;
