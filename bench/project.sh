@@ -1,25 +1,28 @@
 #!/usr/bin/env bash
-# Times the reading and the printing of the largest project file: 1,000 assets, 1,000 picture clips and
-# 1,000 sound clips of 256 gains each. It builds a program of its own in a folder that is deleted again.
+# Times the reading, the printing, the timeline and the plan of the largest project file: 432,000 frames, 1,000
+# assets, 1,000 picture clips that overlap and 1,000 sound clips of 256 gains each. It builds a program of its own
+# in a folder that is deleted again. Times are in milliseconds.
 set -euo pipefail
 top=$(cd "$(dirname "$0")/.." && pwd)
 work=$(mktemp -d)
 trap 'rm -rf "$work"' EXIT
 mkdir -p "$work/crates/large/src"
-for crate in mast_world film_project; do
+for crate in mast_world film_project film_timeline film_plan; do
     mkdir -p "$work/crates/$crate"
     for part in src specs proofs; do
         if [ -d "$top/crates/$crate/$part" ]; then cp -r "$top/crates/$crate/$part" "$work/crates/$crate/"; fi
     done
 done
-grep -E '^(mast_world|film_project)' "$top/crates.txt" > "$work/crates.txt"
-echo 'large: mast_world film_project serde_json io anyhow' >> "$work/crates.txt"
+grep -E '^(mast_world|film_project|film_timeline|film_plan):' "$top/crates.txt" > "$work/crates.txt"
+echo 'large: mast_world film_project film_timeline film_plan serde_json io anyhow' >> "$work/crates.txt"
 cp "$top/HANDLES" "$work/HANDLES"
 cat > "$work/crates/large/src/main.rt" <<'RT'
 //! Reads the file `project.json`, and prints how long its parts took.
 #![tactic(auto)]
 
+use film_plan::plan;
 use film_project::{project_text, read_project};
+use film_timeline::cells;
 use serde_json::Value;
 use std::fs;
 use std::io;
@@ -48,6 +51,15 @@ fn main(rt: HostRuntime) -> io::Result<()> {
             let printed = project_text(rt.alloc(), &project);
             let took = start.elapsed(&rt)?;
             println!(rt; "print {} {}", printed.is_ok(), took.as_millis())?;
+            let start = Instant::now(&rt)?;
+            let shown = cells(rt.alloc(), &project);
+            let took = start.elapsed(&rt)?;
+            println!(rt; "cells {} {}", shown.is_ok(), took.as_millis())?;
+            let sizes = Vec::from_elem(rt.alloc(), u64::MAX, project.assets.len())?;
+            let start = Instant::now(&rt)?;
+            let planned = plan(rt.alloc(), &project, &sizes);
+            let took = start.elapsed(&rt)?;
+            println!(rt; "plan {} {}", planned.is_ok(), took.as_millis())?;
         }
     }
     Ok(())
@@ -67,7 +79,7 @@ for i in range(1000):
         a["channels"] = 16
     p["assets"].append(a)
 for i in range(1000):
-    p["picture"].append({"asset": p["assets"][2 * (i % 500)]["id"], "at": 215999, "from": 999999, "count": 200000, "hold": 100})
+    p["picture"].append({"asset": p["assets"][2 * (i % 500)]["id"], "at": 200 * i, "from": 999999, "count": 200000, "hold": 100})
     p["sound"].append({"asset": p["assets"][2 * (i % 500) + 1]["id"], "at": 215999, "from": 999999, "count": 200000,
                        "gains": [[15, 15, 262144 - k] for k in range(256)]})
 with open(sys.argv[1], "w") as f:

@@ -1,6 +1,6 @@
 -- How a run of `make` ends, from how its parts end.
-use Rattle.std.proofs.Common.{◌≡◌, ◌≢◌, ◌⊎◌, ℕ, ◌+◌, ◌≤◌, Bool, true, false, cond, List, [], ◌∷◌, ◌++◌, length, Option, Some, None, Result, Ok, Err, inl, inr, refl, ap, subst, sym, ◌∙◌, arith}
-use Rattle.std.specs.Prelude.{IfOk, IsFalse, IsSome, IsTrue, unwrap_or}
+use Rattle.std.proofs.Common.{◌≡◌, ℕ, ◌+◌, ◌≤◌, Bool, true, false, cond, List, [], length, Option, Some, None, Result, Ok, Err, inl, inr, refl, ap, subst, sym, ◌∙◌, arith}
+use Rattle.std.specs.Prelude.{IsFalse, IsSome, unwrap_or}
 use Rattle.film_project.specs.Facts.{ProjectFacts}
 use Rattle.make_engine.specs.Package.{Files, frames_size, is_built, picture_of}
 use Rattle.make_engine.specs.declared.outcome.BadWhy.{BadWhy}

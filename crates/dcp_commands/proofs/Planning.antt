@@ -1,5 +1,5 @@
 -- How planning ends, step by step.
-use Rattle.std.proofs.Common.{◌≡◌, ◌≢◌, ℕ, zero, suc, ◌+◌, ◌-◌, ◌<◌, Bool, true, false, ◌||◌, ◌==◌, nat_lt, cond, List, [], ◌∷◌, ◌++◌, length, map, get_or, Option, Some, None, Result, Ok, Err, refl, ap, sym, ◌∙◌, add-one, arith}
+use Rattle.std.proofs.Common.{◌≡◌, ℕ, zero, suc, ◌+◌, ◌-◌, ◌<◌, Bool, true, false, ◌||◌, ◌==◌, nat_lt, cond, List, [], ◌∷◌, length, map, Option, Some, None, Ok, Err, refl, ap, sym, ◌∙◌, add-one, arith}
 use Rattle.std.proofs.lemmas.Bool.Decides.{nat_tests}
 use Rattle.std.specs.List.{list_any}
 use Rattle.std.specs.Option.{option_or}
@@ -15,8 +15,7 @@ use Rattle.film_project.specs.declared.project.Project.{Project}
 use Rattle.film_project.specs.declared.refusal.ProjectRefusal.{ProjectRefusal}
 use Rattle.film_project.specs.declared.refusal.ProjectRefusal.TheVariants.{FileTooLong}
 use Rattle.make_engine.specs.Package.{Files}
-use Rattle.dcp_commands.specs.Inputs.{is_named, missing_at, missing_before, missing_input, planned, short_end, sizes_of, with_project, with_inputs, with_text}
-use Rattle.dcp_commands.specs.declared.inputs.PlanEnd.{PlanEnd}
+use Rattle.dcp_commands.specs.Inputs.{is_named, missing_at, missing_before, missing_input, planned, short_end, sizes_of}
 use Rattle.dcp_commands.specs.declared.inputs.PlanEnd.TheVariants.{InputMissing, InputShort, ProjectRefused}
 
 both : (t a b : Bool) → a ≡ b → (t || a) ≡ (t || b)

@@ -1,10 +1,10 @@
 -- What a project file leads to before a frame is read: a project whose inputs are there, or why there is none.
-use Rattle.std.specs.Prelude.{◌≡◌, ◌≢◌, ℕ, zero, suc, ◌==◌, ◌&&◌, ◌||◌, Bool, true, false, if◌then◌else◌, List, [], ◌∷◌, length, map, Option, Some, None, unwrap_or, Result, Ok, Err}
+use Rattle.std.specs.Prelude.{◌≡◌, ◌≢◌, ℕ, zero, suc, ◌==◌, ◌&&◌, ◌||◌, Bool, true, false, if◌then◌else◌, List, [], length, map, Option, Some, None, unwrap_or, Result, Ok, Err}
 use Rattle.std.specs.List.{list_any, range_with_len}
 use Rattle.std.specs.Option.{option_or}
 use Rattle.film_plan.specs.Needs.{Short, first_short}
 use Rattle.film_project.specs.Accepts.{accepts}
-use Rattle.film_project.specs.Facts.{AssetFacts, PictureFacts, ProjectFacts, SoundFacts}
+use Rattle.film_project.specs.Facts.{ProjectFacts}
 use Rattle.film_project.specs.declared.asset.AssetKind.{AssetKind}
 use Rattle.film_project.specs.declared.asset.AssetKind.TheVariants.{Rgb48, Ppm, J2c, Pcm24}
 use Rattle.film_project.specs.declared.refusal.ProjectRefusal.{ProjectRefusal}

@@ -7,7 +7,6 @@ use Rattle.make_engine.specs.Package.{Files, frames_size, is_built, picture_of}
 use Rattle.make_engine.specs.declared.outcome.BadWhy.{BadWhy}
 use Rattle.make_engine.specs.declared.outcome.MakeEnd.{MakeEnd}
 use Rattle.make_engine.specs.declared.outcome.MakeEnd.TheVariants as make_end
-use Rattle.make_engine.specs.declared.outcome.Report.{Report}
 use Rattle.dcp_commands.specs.Inputs.{planned}
 use Rattle.dcp_commands.specs.Words.{MakeWords, make_words}
 use Rattle.dcp_commands.specs.declared.inputs.PlanEnd.{PlanEnd}

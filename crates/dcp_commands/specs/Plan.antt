@@ -1,5 +1,5 @@
 -- What `plan` prints.
-use Rattle.std.specs.Prelude.{◌≡◌, ◌⊎◌, ℕ, codes, List, [], ◌∷◌, ◌++◌, length, filter, Option, Some, None, Result, Ok, Err}
+use Rattle.std.specs.Prelude.{ℕ, codes, List, ◌++◌, length, filter, Option, Some, None, Result, Ok, Err}
 use Rattle.std.specs.Fmt.{decimal}
 use Rattle.film_plan.specs.Plan.{limits_of}
 use Rattle.film_project.specs.Facts.{ProjectFacts}

@@ -13,3 +13,6 @@ pub use inspect::run;
 pub use make::run_make;
 pub use status::Status;
 pub use words::out_name;
+
+#[cfg(test)]
+mod tests;

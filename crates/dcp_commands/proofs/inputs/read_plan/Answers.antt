@@ -1,4 +1,4 @@
-use Rattle.std.proofs.Common.{◌≡◌, Err, ap, ◌∙◌, sym}
+use Rattle.std.proofs.Common.{◌≡◌, Err, ap, ◌∙◌}
 use Rattle.std.proofs.lemmas.Result.{err_from_is_err_and}
 use Rattle.film_plan.specs.declared.refusal.PlanRefusal.TheVariants as plan
 use Rattle.film_project.specs.Plain.{project_facts}

@@ -1,6 +1,4 @@
-use Rattle.std.proofs.Common.{inl, refl, rules}
-use Rattle.std.specs.Prelude.{IfOk}
-use Rattle.film_plan.specs.declared.job.Plan.{Plan}
+use Rattle.std.proofs.Common.{inl, refl}
 use Rattle.film_project.specs.Plain.{project_facts}
 use Rattle.dcp_commands.specs.Plan.{plan_text}
 use Rattle.dcp_commands.proofs.inspect.show.Goals as goal

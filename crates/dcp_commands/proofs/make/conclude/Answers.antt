@@ -1,6 +1,5 @@
-use Rattle.std.proofs.Common.{◌≡◌, [], Err, inl, refl, rules}
+use Rattle.std.proofs.Common.{[], inl, refl, rules}
 use Rattle.dcp_commands.specs.Line.{done_text}
-use Rattle.dcp_commands.specs.declared.status.Status.TheVariants.{Done}
 use Rattle.dcp_commands.proofs.Making.{not_done, printed_other}
 use Rattle.dcp_commands.proofs.make.conclude.Goals as goal
 

@@ -1,5 +1,5 @@
 -- The plan's project is that of the words; where it is built, the engine's answer is the command's.
-use Rattle.std.proofs.Common.{◌≡◌, ◌+◌, List, [], ℕ, Some, None, Ok, Err, inl, inr, length, map, string_bytes, ap, subst, sym, ◌∙◌}
+use Rattle.std.proofs.Common.{◌≡◌, [], Some, Err, inl, inr, length, map, string_bytes, ap, subst, sym, ◌∙◌}
 use Rattle.std.proofs.lemmas.Result.{err_from_is_err_and}
 use Rattle.std.specs.Prelude.{unwrap_or}
 use Rattle.film_project.specs.Plain.{project_facts}
@@ -9,8 +9,6 @@ use Rattle.mast_world.specs.Count.{counted}
 use Rattle.dcp_commands.specs.Inputs.{planned}
 use Rattle.dcp_commands.specs.Make.{IsEarly, make_status, status_of}
 use Rattle.dcp_commands.specs.Words.{MakeWords}
-use Rattle.dcp_commands.specs.declared.status.Status.{Status}
-use Rattle.dcp_commands.specs.declared.status.Status.TheVariants.{InputMissing, BadFrame}
 use Rattle.dcp_commands.proofs.Making.{bad_end, built, built_unless, checked_built, checked_by, counted-counted, early_end, ended_unbuilt, frames_are, input_is, missing_end, package_from, package_is, risen_later}
 use Rattle.dcp_commands.proofs.make.make_package.Goals as goal
 
