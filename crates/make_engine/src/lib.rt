@@ -10,3 +10,6 @@ mod ready;
 
 pub use engine::make_alone;
 pub use outcome::{BadWhy, MakeEnd, Options, Report};
+
+#[cfg(test)]
+mod tests;
