@@ -2,6 +2,7 @@
 use Rattle.std.proofs.Common.{◌≡◌, ℕ, ◌+◌, ◌≤◌, Bool, true, false, cond, List, [], length, Option, Some, None, Result, Ok, Err, inl, inr, refl, ap, subst, sym, ◌∙◌, arith}
 use Rattle.std.specs.Prelude.{IsFalse, IsSome, unwrap_or}
 use Rattle.film_project.specs.Facts.{ProjectFacts}
+use Rattle.make_engine.proofs.Outcomes.{not_some}
 use Rattle.make_engine.specs.Package.{Files, frames_size, is_built, picture_of}
 use Rattle.make_engine.specs.declared.outcome.BadWhy.{BadWhy}
 use Rattle.make_engine.specs.declared.outcome.MakeEnd.{MakeEnd}
@@ -14,9 +15,6 @@ use Rattle.dcp_commands.specs.Make.{Answers, IsEarly, checked, frames_of, input_
 use Rattle.dcp_commands.specs.Words.{MakeWords, make_words}
 use Rattle.dcp_commands.specs.declared.status.Status.{Status}
 use Rattle.dcp_commands.specs.declared.status.Status.TheVariants.{Done, Usage, ProjectRefused, InputMissing, InputShort, SourceFault, StoreFault, SinkFault, NoMemory, BadFrame, Unbuilt}
-
-pub counted-counted : (c a b : ℕ) → counted (counted c a) b ≡ counted c (a + b)
-counted-counted c a b = omega arith
 
 -- words and inputs that give a project leave what isn't built
 pub checked_by : (files : Files) (words : List (List ℕ)) (asked : MakeWords) (project : ProjectFacts) → make_words words ≡ Some asked → planned files asked.project ≡ Ok project → checked files words ≡ with_plan (Ok project)
@@ -67,10 +65,6 @@ early_end make_end.SourceFault early = absurd early
 early_end make_end.StoreFault early = absurd early
 early_end make_end.Unbuilt early = refl
 early_end make_end.NoMemory early = absurd early
-
-not_some : {A : Type 0} (o : Option A) → IsSome o → o ≡ None → ⊥
-not_some None some none = absurd (cc)
-not_some (Some a) some none = cc
 
 -- a project without a package isn't built, or its frames can't be shown
 pub package_from : (files : Files) (words : List (List ℕ)) (project : ProjectFacts) (b : Bool) → checked files words ≡ cond b (Ok project) (Err Unbuilt) → IsSome (package_of files words) → (b ≡ true) × IsSome (picture_of files project)

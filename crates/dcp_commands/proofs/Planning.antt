@@ -87,20 +87,6 @@ pub named_played : (project : Project) (place : ℕ) (pictures : List PictureCli
 named_played project place pictures sounds shown played same is not_shown same_sound sound_is =
     sym (ap (λ t. t || list_any (λ clip. clip.asset == place) (map sound_facts project.sound)) (shown_is project place pictures shown same is ∙ not_shown) ∙ played_is project place sounds played same_sound sound_is)
 
-less_here : (t : Bool) (asset : List ℕ) (size need : ℕ) (later : Option Short) (short : Short) → nat_lt size need ≡ t → cond t (Some (record { asset = asset; size = size; need = need })) later ≡ Some short → (later ≡ Some short → short.size < short.need) → short.size < short.need
-less_here true asset size need later short less is rest = grind (arith, nat_tests)
-less_here false asset size need later short less is rest = rest is
-
-less_from : (project : ProjectFacts) (place : ℕ) (assets : List AssetFacts) (sizes : List ℕ) (short : Short) → short_from project place assets sizes ≡ Some short → short.size < short.need
-less_from project place [] sizes short is = absurd (cc)
-less_from project place (asset ∷ assets) [] short is = absurd (cc)
-less_from project place (asset ∷ assets) (size ∷ sizes) short is =
-    less_here (nat_lt size (need_of project place asset)) asset.id size (need_of project place asset) (short_from project (place + 1) assets sizes) short refl is (less_from project (place + 1) assets sizes short)
-
--- the size of an asset that is short is below its need
-pub less_than_need : (project : ProjectFacts) (sizes : List ℕ) (asset : List ℕ) (size need : ℕ) → first_short project sizes ≡ Some (record { asset = asset; size = size; need = need }) → size < need
-less_than_need project sizes asset size need is = less_from project 0 project.assets sizes (record { asset = asset; size = size; need = need }) is
-
 pub short_end_is : (refusal : PlanRefusal) (asset : List ℕ) (size need : ℕ) → short_end refusal ≡ InputShort asset size need → refusal ≡ plan.InputShort asset size need
 short_end_is (plan.InputShort a s n) asset size need is = cc
 short_end_is plan.NoMemory asset size need is = absurd (cc)

@@ -1,4 +1,4 @@
-ghost use Rattle.std.specs.Prelude.{◌≡◌, ℕ, List, Some, None, Err, IfOk, length};
+ghost use Rattle.std.specs.Prelude.{◌≡◌, ◌<◌, ℕ, List, Some, None, Err, IfOk, length};
 ghost use Rattle.film_plan.specs.Needs.{first_short, Short};
 ghost use Rattle.film_plan.specs.Plan as spec;
 ghost use Rattle.film_project.specs.Plain.{project_facts};
@@ -21,6 +21,7 @@ pub fn plan(alloc: Global, project: &Project, sizes: &[u64]) -> Result<Plan, Pla
     ensures enough { IfOk result (λ _. first_short (project_facts project.now) sizes.now ≡ None) }
     ensures short { (asset : List ℕ) (size need : ℕ) → result ≡ Err (PlanRefusal.InputShort asset size need)
         → first_short (project_facts project.now) sizes.now ≡ Some (record { asset = asset; size = size; need = need }) }
+    ensures less { (asset : List ℕ) (size need : ℕ) → result ≡ Err (PlanRefusal.InputShort asset size need) → size < need }
 {
     check_sizes(alloc, project, sizes)?;
     Ok(make_plan(alloc, project)?)
@@ -32,6 +33,7 @@ fn check_sizes(alloc: Global, project: &Project, sizes: &[u64]) -> Result<(), Pl
     ensures enough { IfOk result (λ _. first_short (project_facts project.now) sizes.now ≡ None) }
     ensures short { (asset : List ℕ) (size need : ℕ) → result ≡ Err (PlanRefusal.InputShort asset size need)
         → first_short (project_facts project.now) sizes.now ≡ Some (record { asset = asset; size = size; need = need }) }
+    ensures less { (asset : List ℕ) (size need : ℕ) → result ≡ Err (PlanRefusal.InputShort asset size need) → size < need }
 {
     for (place, asset) in project.assets.as_slice().iter().enumerate() {
         let size = sizes[place];

@@ -126,7 +126,7 @@ bad_frame tells files project here frame most why name shows limit long = record
   size = long.size;
 }
 
-counted-counted : (c a b : ℕ) → counted (counted c a) b ≡ counted c (a + b)
+pub counted-counted : (c a b : ℕ) → counted (counted c a) b ≡ counted c (a + b)
 counted-counted c a b = omega arith
 
 -- a count that went on

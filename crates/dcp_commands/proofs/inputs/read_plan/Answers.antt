@@ -4,7 +4,7 @@ use Rattle.film_plan.specs.declared.refusal.PlanRefusal.TheVariants as plan
 use Rattle.film_project.specs.Plain.{project_facts}
 use Rattle.dcp_commands.specs.Inputs.{short_end}
 use Rattle.dcp_commands.specs.declared.inputs.PlanEnd.TheVariants.{InputShort}
-use Rattle.dcp_commands.proofs.Planning.{less_than_need, short_end_is}
+use Rattle.dcp_commands.proofs.Planning.{short_end_is}
 use Rattle.dcp_commands.proofs.inputs.read_plan.Goals as goal
 
 pub returns-in_err-plan-clause-short : goal.returns-in_err-plan-clause-short
@@ -12,4 +12,4 @@ returns-in_err-plan-clause-short g c = λ asset size need e.
     let p = err_from_is_err_and c.from_residual-in_err-plan.result c.from_residual-in_err-plan.ensures.1 in
     let is : short_end c.in_err-plan.field-0.0 ≡ InputShort asset size need = cc (e, p.1, p.2) in
     let was : c.plan.result ≡ Err (plan.InputShort asset size need) = c.in_err-plan.was ∙ ap Err (short_end_is c.in_err-plan.field-0.0 asset size need is) in
-    less_than_need (project_facts c.in_ok-project.project) c.as_slice-2.result.now asset size need (c.plan.ensures.short asset size need was)
+    c.plan.ensures.less asset size need was

@@ -3,13 +3,14 @@ use Rattle.std.proofs.Common.{◌≡◌, [], Some, Err, inl, inr, length, map, s
 use Rattle.std.proofs.lemmas.Result.{err_from_is_err_and}
 use Rattle.std.specs.Prelude.{unwrap_or}
 use Rattle.film_project.specs.Plain.{project_facts}
+use Rattle.make_engine.proofs.Frames.{counted-counted}
 use Rattle.make_engine.specs.Package.{frames_size, is_built}
 use Rattle.make_engine.specs.declared.outcome.MakeEnd.TheVariants as make_end
 use Rattle.mast_world.specs.Count.{counted}
 use Rattle.dcp_commands.specs.Inputs.{planned}
 use Rattle.dcp_commands.specs.Make.{IsEarly, make_status, status_of}
 use Rattle.dcp_commands.specs.Words.{MakeWords}
-use Rattle.dcp_commands.proofs.Making.{bad_end, built, built_unless, checked_built, checked_by, counted-counted, early_end, ended_unbuilt, frames_are, input_is, missing_end, package_from, package_is, risen_later}
+use Rattle.dcp_commands.proofs.Making.{bad_end, built, built_unless, checked_built, checked_by, early_end, ended_unbuilt, frames_are, input_is, missing_end, package_from, package_is, risen_later}
 use Rattle.dcp_commands.proofs.make.make_package.Goals as goal
 
 pub returns-in_err-make_alone-clause-ended : goal.returns-in_err-make_alone-clause-ended

@@ -1,5 +1,5 @@
 use Rattle.std.proofs.Common.{◌≡◌, ◌++◌, length, map, ap, ◌∙◌, arith, rules}
-use Rattle.std.proofs.lemmas.List.FromFn.{length-map-range_with_len}
+use Rattle.film_plan.proofs.Cells.{length-cells_of}
 use Rattle.film_plan.specs.Plan.{limits_of}
 use Rattle.film_project.specs.Plain.{picture_facts, project_facts}
 use Rattle.film_timeline.specs.Timeline.{cell_at}
@@ -9,7 +9,7 @@ use Rattle.dcp_commands.proofs.plan_text.plan_text.Goals as goal
 pub count_text-requires : goal.count_text-requires
 count_text-requires c =
     let plan = c.args.plan.now in
-    let count = ap length (c.as_slice.ensures ∙ plan.cells_are) ∙ length-map-range_with_len (cell_at (map picture_facts plan.project.picture)) 0 plan.project.frames in
+    let count = ap length (c.as_slice.ensures ∙ plan.cells_are) ∙ length-cells_of (project_facts plan.project) in
     omega (arith, count, plan.project.most_frames)
 
 pub returns : goal.returns
