@@ -1,6 +1,7 @@
-ghost use Rattle.std.specs.Prelude.{◌≡◌, ◌<◌, ℕ, List, Some, None, Err, IfOk, length};
+ghost use Rattle.std.specs.Prelude.{◌≡◌, ◌<◌, ◌∷◌, ◌++◌, ℕ, codes, List, Some, None, Ok, Err, IfOk, IsOk, length};
 ghost use Rattle.film_plan.specs.Needs.{first_short, Short};
 ghost use Rattle.film_plan.specs.Plan as spec;
+ghost use Rattle.film_project.specs.Accepts.{accepts};
 ghost use Rattle.film_project.specs.Plain.{project_facts};
 
 use crate::ids::ids_of;
@@ -52,11 +53,13 @@ fn check_sizes(alloc: Global, project: &Project, sizes: &[u64]) -> Result<(), Pl
 fn make_plan(alloc: Global, project: &Project) -> Result<Plan, NoMemory>
     ensures { IfOk result (λ plan. project_facts plan.project ≡ project_facts project.now) }
 {
-    let project = copy_of(alloc, project)?;
+    // The canonical text tells the whole project, so that what is read back from it is a copy.
+    let text = project_text(alloc, project)?;
+    let project = read_back(alloc, text.as_slice())?;
     let cells = cells(alloc, &project)?;
     let limits = limits_of(&project);
     let ids = ids_of(&project);
-    let job_text = job_text(alloc, &project)?;
+    let job_text = job_text(alloc, text.as_slice())?;
     Ok(Plan {
         project,
         cells,
@@ -66,13 +69,13 @@ fn make_plan(alloc: Global, project: &Project) -> Result<Plan, NoMemory>
     })
 }
 
-fn copy_of(alloc: Global, project: &Project) -> Result<Project, NoMemory>
-    ensures { IfOk result (λ copy. project_facts copy ≡ project_facts project.now) }
+/// The project of a text that tells one.
+fn read_back(alloc: Global, text: &[u8]) -> Result<Project, NoMemory>
+    requires { IsOk (accepts text.now) }
+    ensures { IfOk result (λ project. accepts text.now ≡ Ok (project_facts project)) }
 {
-    // The job's text tells the whole project, so that what is read back from it is a copy.
-    let text = project_text(alloc, project)?;
-    match read_project(alloc, text.as_slice()) {
-        Ok(copy) => Ok(copy),
+    match read_project(alloc, text) {
+        Ok(project) => Ok(project),
         Err(ProjectRefusal::NoMemory) => Err(NoMemory),
         Err(_) => unreachable!(),
     }
@@ -89,10 +92,11 @@ fn limits_of(project: &Project) -> Limits
     }
 }
 
-fn job_text(alloc: Global, project: &Project) -> Result<Bytes, NoMemory>
-    ensures { IfOk result (λ text. text ≡ spec.job_of (project_facts project.now)) }
+/// The job's text of a project whose canonical text this is.
+fn job_text(alloc: Global, canonical: &[u8]) -> Result<Bytes, NoMemory>
+    ensures { IfOk result (λ text. text ≡ codes "DCPJOB 1" ++ 10 ∷ canonical.now) }
 {
     let mut text = b"DCPJOB 1\n".to_vec(alloc)?;
-    text.extend_from_slice(project_text(alloc, project)?.as_slice())?;
+    text.extend_from_slice(canonical)?;
     Ok(Bytes::from(text))
 }
