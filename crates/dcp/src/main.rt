@@ -1,7 +1,7 @@
 //! `dcp`: makes cinema packages.
 #![tactic(auto)]
 
-use dcp_commands::{out_name, run, run_make};
+use dcp_commands::{Status, out_name, run, run_make};
 use mast_real::{FolderSource, FolderVolume, StdSink};
 use mast_world::Bytes;
 use std::alloc::{AllocError, Global};
@@ -9,9 +9,6 @@ use std::io::ErrorKind;
 use std::process::ExitCode;
 use std::rt::Env;
 use std::{env, io};
-
-/// The exit status where memory is wanted before anything can be done.
-const NO_MEMORY: u8 = 11;
 
 /// The words behind the program's name. Words that aren't UTF-8 are as good as none: both are refused.
 fn read_words<R: Env + AllocGlobal>(rt: &R) -> io::Result<Vec<String>> {
@@ -39,7 +36,7 @@ fn make_in_folder(
 ) -> io::Result<u8> {
     let alloc = rt.alloc();
     let Ok(name) = out_name(alloc, words) else {
-        return Ok(NO_MEMORY);
+        return Ok(Status::NoMemory.exit_code());
     };
     let mut volume = FolderVolume::new(rt.clone()?, alloc, folder_of(alloc, name)?);
     Ok(run_make(alloc, words, source, &mut volume, out).exit_code())
@@ -59,6 +56,6 @@ fn run_words(rt: &HostRuntime) -> io::Result<u8> {
 fn main(rt: HostRuntime) -> ExitCode {
     match run_words(&rt) {
         Ok(code) => ExitCode::from(code),
-        Err(_) => ExitCode::from(NO_MEMORY),
+        Err(_) => ExitCode::from(Status::NoMemory.exit_code()),
     }
 }

@@ -1,5 +1,5 @@
 -- How a run of `make` ends, from how its parts end.
-use Rattle.std.proofs.Common.{◌≡◌, ℕ, ◌+◌, ◌≤◌, Bool, true, false, cond, List, [], length, Option, Some, None, Result, Ok, Err, inl, inr, refl, ap, subst, sym, ◌∙◌, arith}
+use Rattle.std.proofs.Common.{◌≡◌, ℕ, ◌+◌, ◌≤◌, Bool, true, false, cond, List, [], length, Some, Result, Ok, Err, inl, inr, refl, ap, subst, sym, ◌∙◌, arith}
 use Rattle.std.specs.Prelude.{IsFalse, IsSome, unwrap_or}
 use Rattle.film_project.specs.Facts.{ProjectFacts}
 use Rattle.make_engine.proofs.Outcomes.{not_some}
@@ -8,13 +8,12 @@ use Rattle.make_engine.specs.declared.outcome.BadWhy.{BadWhy}
 use Rattle.make_engine.specs.declared.outcome.MakeEnd.{MakeEnd}
 use Rattle.make_engine.specs.declared.outcome.MakeEnd.TheVariants as make_end
 use Rattle.make_engine.specs.declared.outcome.Report.{Report}
-use Rattle.mast_world.specs.Count.{HasRisen, counted}
+use Rattle.mast_world.specs.Count.{HasRisen}
 use Rattle.dcp_commands.specs.Inputs.{planned}
-use Rattle.dcp_commands.specs.Line.{IsPrinted}
 use Rattle.dcp_commands.specs.Make.{Answers, IsEarly, checked, frames_of, input_size, make_status, package_of, status_of, with_plan}
 use Rattle.dcp_commands.specs.Words.{MakeWords, make_words}
 use Rattle.dcp_commands.specs.declared.status.Status.{Status}
-use Rattle.dcp_commands.specs.declared.status.Status.TheVariants.{Done, Usage, ProjectRefused, InputMissing, InputShort, SourceFault, StoreFault, SinkFault, NoMemory, BadFrame, Unbuilt}
+use Rattle.dcp_commands.specs.declared.status.Status.TheVariants.{Done, InputMissing, BadFrame, Unbuilt}
 
 -- words and inputs that give a project leave what isn't built
 pub checked_by : (files : Files) (words : List (List ℕ)) (asked : MakeWords) (project : ProjectFacts) → make_words words ≡ Some asked → planned files asked.project ≡ Ok project → checked files words ≡ with_plan (Ok project)
@@ -72,26 +71,6 @@ package_from files words project true told some =
     let is : package_of files words ≡ picture_of files project = rw told refl in
     (refl, subst (λ picture. IsSome picture) is some)
 package_from files words project false told some = absurd (not_some (package_of files words) some (rw told refl))
-
--- what is printed under another status than `Done` doesn't depend on what is printed where the command is done
-pub printed_other : (a b : List ℕ) (status : Status) (before now : List ℕ) → (status ≡ Done → ⊥) → IsPrinted a status before now → IsPrinted b status before now
-printed_other a b Done before now other is = absurd (other refl)
-printed_other a b Usage before now other is = is
-printed_other a b (ProjectRefused r) before now other is = is
-printed_other a b (InputMissing n) before now other is = is
-printed_other a b (InputShort x s n) before now other is = is
-printed_other a b SourceFault before now other is = is
-printed_other a b StoreFault before now other is = is
-printed_other a b SinkFault before now other is = is
-printed_other a b NoMemory before now other is = is
-printed_other a b (BadFrame f w) before now other is = is
-printed_other a b Unbuilt before now other is = is
-
--- what another status is answered as isn't `Done`
-pub not_done : (result status : Status) → Answers result status → (status ≡ Done → ⊥) → result ≡ Done → ⊥
-not_done result status (inl same) other done = other (sym same ∙ done)
-not_done result status (inr (inl sink)) other done = cc
-not_done result status (inr (inr memory)) other done = cc
 
 -- what ends otherwise is built
 pub built_unless : (b : Bool) (made : Result Report MakeEnd) (end : MakeEnd) → made ≡ Err end → (end ≡ make_end.Unbuilt → ⊥) → (IsFalse b → made ≡ Err make_end.Unbuilt) → b ≡ true

@@ -1,13 +1,13 @@
 -- How planning ends, step by step.
-use Rattle.std.proofs.Common.{◌≡◌, ℕ, zero, suc, ◌+◌, ◌-◌, ◌<◌, Bool, true, false, ◌||◌, ◌==◌, nat_lt, cond, List, [], ◌∷◌, length, map, Option, Some, None, Ok, Err, refl, ap, sym, ◌∙◌, add-one, arith}
+use Rattle.std.proofs.Common.{◌≡◌, ℕ, zero, suc, ◌+◌, ◌-◌, ◌<◌, Bool, true, false, ◌||◌, ◌==◌, List, [], ◌∷◌, length, map, Some, None, Ok, Err, refl, ap, sym, ◌∙◌, add-one, arith}
 use Rattle.std.proofs.lemmas.Bool.Decides.{nat_tests}
 use Rattle.std.specs.List.{list_any}
 use Rattle.std.specs.Option.{option_or}
-use Rattle.film_plan.specs.Needs.{Short, first_short, need_of, short_from}
+use Rattle.film_plan.specs.Needs.{Short, first_short}
 use Rattle.film_plan.specs.declared.refusal.PlanRefusal.{PlanRefusal}
 use Rattle.film_plan.specs.declared.refusal.PlanRefusal.TheVariants as plan
 use Rattle.film_project.specs.Accepts.{accepts}
-use Rattle.film_project.specs.Facts.{AssetFacts, ProjectFacts}
+use Rattle.film_project.specs.Facts.{ProjectFacts}
 use Rattle.film_project.specs.Plain.{picture_facts, project_facts, sound_facts}
 use Rattle.film_project.specs.declared.clip.PictureClip.{PictureClip}
 use Rattle.film_project.specs.declared.clip.SoundClip.{SoundClip}

@@ -15,7 +15,7 @@ why_text (Limit part got) = codes "limit " ++ (decimal part ++ (codes " " ++ dec
 abbrev pub done_text : ℕ → ℕ → List ℕ
 done_text frames kept = codes "done: " ++ (decimal frames ++ (codes " frames, " ++ (decimal kept ++ codes " kept")))
 
--- the text of a status; `done` is what the command prints where it is done
+-- the text of a status; `done` is what the command prints where it is done, and of a failed print there is none
 abbrev pub status_text : List ℕ → Status → List ℕ
 status_text done Done = done
 status_text done Usage = codes "usage: dcp make|plan|frame|read|trial"
@@ -24,7 +24,7 @@ status_text done (InputMissing name) = codes "input missing: " ++ name
 status_text done (InputShort asset size need) = codes "input short: " ++ (asset ++ (codes " has " ++ (decimal size ++ (codes " needs " ++ decimal need))))
 status_text done SourceFault = codes "source fault"
 status_text done StoreFault = codes "store fault"
-status_text done SinkFault = codes "sink fault"
+status_text done SinkFault = []
 status_text done NoMemory = codes "no memory"
 status_text done (BadFrame frame why) = codes "bad frame: " ++ (decimal frame ++ (codes " " ++ why_text why))
 status_text done Unbuilt = codes "unbuilt"
@@ -32,9 +32,9 @@ status_text done Unbuilt = codes "unbuilt"
 abbrev pub line_of : List ℕ → Status → List ℕ
 line_of done status = status_text done status ++ 10 ∷ []
 
--- what was printed under a status: its line; some front of a line where the sink failed; the line or nothing for want of memory
+-- what was printed under a status: its line; a front of some status' line where the sink failed; the line or nothing for want of memory
 abbrev pub IsPrinted : List ℕ → Status → List ℕ → List ℕ → Type 0
-IsPrinted done SinkFault before now = (line : List ℕ) × (n : ℕ) × (now ≡ before ++ take n line)
+IsPrinted done SinkFault before now = (status : Status) × (n : ℕ) × (now ≡ before ++ take n (line_of done status))
 IsPrinted done NoMemory before now = (now ≡ before) ⊎ (now ≡ before ++ line_of done NoMemory)
 IsPrinted done status before now = now ≡ before ++ line_of done status
 

@@ -88,7 +88,11 @@ pub record IsBadInProject (tells : Type 0) (files : Files) (words : List (List �
 abbrev pub Answers : Status → Status → Type 0
 Answers result status = (result ≡ status) ⊎ (result ≡ SinkFault) ⊎ (result ≡ NoMemory)
 
--- the status of an outcome
+-- the status of an outcome, and what `Done` prints of it
 abbrev pub status_of : {T : Type 0} → Result T Status → Status
 status_of (Ok made) = Done
 status_of (Err status) = status
+
+abbrev pub done_of : Result (List ℕ) Status → List ℕ
+done_of (Ok text) = text
+done_of (Err status) = []

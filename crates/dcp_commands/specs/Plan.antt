@@ -12,7 +12,7 @@ use Rattle.dcp_commands.specs.Make.{plan_status}
 use Rattle.dcp_commands.specs.Words.{plan_words}
 use Rattle.dcp_commands.specs.declared.inputs.PlanEnd.{PlanEnd}
 use Rattle.dcp_commands.specs.declared.status.Status.{Status}
-use Rattle.dcp_commands.specs.declared.status.Status.TheVariants.{Done, Usage}
+use Rattle.dcp_commands.specs.declared.status.Status.TheVariants.{Done, Usage, ProjectRefused, InputMissing, InputShort, SourceFault, NoMemory}
 
 abbrev pub size_text : ProjectFacts → List ℕ
 size_text project =
@@ -44,3 +44,13 @@ checked_plan files words = with_name files (plan_words words)
 abbrev pub status_in : Result ProjectFacts Status → Status
 status_in (Ok project) = Done
 status_in (Err status) = status
+
+-- how `plan` may end without a plan
+abbrev pub IsPlanEnd : Status → Type 0
+IsPlanEnd Usage = Unit {0}
+IsPlanEnd (ProjectRefused refusal) = Unit {0}
+IsPlanEnd (InputMissing name) = Unit {0}
+IsPlanEnd (InputShort asset size need) = Unit {0}
+IsPlanEnd SourceFault = Unit {0}
+IsPlanEnd NoMemory = Unit {0}
+IsPlanEnd status = ⊥

@@ -85,12 +85,6 @@ fn source_fault(_fault: Failed) -> PlanEnd
     PlanEnd::SourceFault
 }
 
-fn make_room(alloc: Global, size: usize) -> Result<Vec<u8>, AllocError>
-    ensures { IfOk result (λ room. length room.items ≡ size) }
-{
-    Vec::from_elem(alloc, 0, size)
-}
-
 /// The size of a file, which has to be there.
 fn find_size<S: Source>(alloc: Global, source: &mut S, name: &[u8]) -> Result<u64, PlanEnd>
     ensures size { S.tells → IfOk result (λ size. (bytes : List ℕ) × (S.file source.old name.now ≡ Some bytes) × (size ≡ length bytes)) }
@@ -132,7 +126,7 @@ fn read_text<S: Source>(alloc: Global, source: &mut S, name: &[u8]) -> Result<Ve
         let refusal = ProjectRefusal::FileTooLong { bytes: size };
         return Err(PlanEnd::ProjectRefused { refusal });
     }
-    let mut text = make_room(alloc, size as usize)?;
+    let mut text = Vec::from_elem(alloc, 0, size as usize)?;
     source
         .read(name, 0, text.as_mut_slice())
         .map_err(source_fault)?;

@@ -1,25 +1,27 @@
-ghost use Rattle.std.specs.Prelude.{◌≡◌, ◌≢◌, ◌≤◌, ◌++◌, codes, string_bytes, IfOk};
+ghost use Rattle.std.specs.Prelude.{◌≡◌, ◌≢◌, ◌++◌, Err, codes, string_bytes, IfOk};
 ghost use Rattle.std.specs.Fmt.{decimal};
 ghost use Rattle.make_engine.specs.declared.outcome.BadWhy.TheVariants.{Limit};
 ghost use Rattle.mast_world.specs.Count.{HasRisen};
 ghost use Rattle.dcp_commands.specs.Line.{done_text, why_text, status_text, line_of, IsPrinted};
-ghost use Rattle.dcp_commands.specs.Make.{Answers};
+ghost use Rattle.dcp_commands.specs.Make.{Answers, done_of, status_of};
 
 use crate::status::Status;
 use film_project::refusal_text;
 use make_engine::{BadWhy, Report};
-use mast_world::{NoMemory, Sink};
+use mast_world::{Bytes, NoMemory, Sink};
 use std::alloc::{AllocError, Global};
 
 /// What `make` prints of a package, without the line's end.
-pub(crate) fn done_text(alloc: Global, report: Report) -> Result<Vec<u8>, NoMemory>
-    ensures { IfOk result (λ text. text.items ≡ done_text report.frames report.kept) }
+pub(crate) fn done_text(alloc: Global, report: Report) -> Result<Bytes, NoMemory>
+    ensures { IfOk result (λ text. text ≡ done_text report.frames report.kept) }
 {
     let (frames, kept) = (report.frames, report.kept);
-    Ok(format!(in alloc; "done: {frames} frames, {kept} kept")?.into_bytes())
+    let text = format!(in alloc; "done: {frames} frames, {kept} kept")?;
+    Ok(Bytes::from(text.into_bytes()))
 }
 
-fn limit_of(why: BadWhy) -> (u8, u64)
+/// The fields of the one way in which an input breaks its form today.
+fn part_and_size(why: BadWhy) -> (u8, u64)
     ensures { why ≡ Limit result.0 result.1 }
 {
     match why {
@@ -30,7 +32,7 @@ fn limit_of(why: BadWhy) -> (u8, u64)
 fn bad_frame_text(alloc: Global, frame: u32, why: BadWhy) -> Result<String, AllocError>
     ensures { IfOk result (λ text. string_bytes text ≡ codes "bad frame: " ++ (decimal frame ++ (codes " " ++ why_text why))) }
 {
-    let (part, got) = limit_of(why);
+    let (part, got) = part_and_size(why);
     format!(in alloc; "bad frame: {frame} limit {part} {got}")
 }
 
@@ -67,7 +69,7 @@ fn status_text(alloc: Global, status: &Status, done: &[u8]) -> Result<Vec<u8>, N
         }
         Status::SourceFault => Ok(b"source fault".to_vec(alloc)?),
         Status::StoreFault => Ok(b"store fault".to_vec(alloc)?),
-        Status::SinkFault => Ok(b"sink fault".to_vec(alloc)?),
+        Status::SinkFault => Ok(Vec::new(alloc)),
         Status::NoMemory => Ok(b"no memory".to_vec(alloc)?),
         Status::BadFrame { frame, why } => Ok(bad_frame_text(alloc, *frame, *why)?.into_bytes()),
         Status::Unbuilt => Ok(b"unbuilt".to_vec(alloc)?),
@@ -82,14 +84,28 @@ fn line_of(alloc: Global, status: &Status, done: &[u8]) -> Result<Vec<u8>, NoMem
     Ok(line)
 }
 
+/// Prints how a command ended: the text that was made, or the line of the status that kept it from
+/// being made. It answers that status, or why it couldn't be printed.
+pub(crate) fn print<O: Sink>(alloc: Global, outcome: Result<Bytes, Status>, out: &mut O) -> Status
+    requires { outcome ≢ Err Status.SinkFault }
+    ensures answer { Answers result (status_of outcome) }
+    ensures printed { O.tells → IsPrinted (done_of outcome) result (O.written out.old) (O.written out.new) }
+    ensures sink_fault { result ≡ Status.SinkFault → HasRisen (O.faults out.old) (O.faults out.new) }
+{
+    let (status, done) = match outcome {
+        Ok(done) => (Status::Done, done),
+        Err(status) => (status, Bytes::new(alloc)),
+    };
+    print_line(alloc, status, done.as_slice(), out)
+}
+
 /// Prints the line of a status, and answers the status, or why it couldn't be printed. `done` is the
 /// text of `Done`.
-pub(crate) fn print<O: Sink>(alloc: Global, status: Status, done: &[u8], out: &mut O) -> Status
+fn print_line<O: Sink>(alloc: Global, status: Status, done: &[u8], out: &mut O) -> Status
     requires { status ≢ Status.SinkFault }
     ensures answer { Answers result status }
     ensures printed { O.tells → IsPrinted done.now result (O.written out.old) (O.written out.new) }
     ensures sink_fault { result ≡ Status.SinkFault → HasRisen (O.faults out.old) (O.faults out.new) }
-    ensures faults_kept { O.faults out.old ≤ O.faults out.new }
 {
     let Ok(line) = line_of(alloc, &status, done) else {
         return Status::NoMemory;

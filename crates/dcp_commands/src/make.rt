@@ -1,7 +1,8 @@
-ghost use Rattle.std.specs.Prelude.{◌≡◌, ◌≢◌, ◌⊎◌, ◌≤◌, ◌<◌, ℕ, List, Some, None, Err, IfOk, OnOk, IsSome, map, string_bytes};
+ghost use Rattle.std.specs.Prelude.{◌≡◌, ◌≢◌, ◌⊎◌, ◌≤◌, ◌<◌, ℕ, List, Some, None, Err, IfOk, OnOk, IsSome, length, map, string_bytes};
 ghost use Rattle.make_engine.specs.Causes.{IsUnwritten};
 ghost use Rattle.make_engine.specs.declared.outcome.BadWhy.{BadWhy};
 ghost use Rattle.mast_world.specs.Count.{HasRisen, counted};
+ghost use Rattle.mast_world.specs.declared.volume.FileId.{FileId};
 ghost use Rattle.mast_world.specs.declared.volume.FileId.TheVariants.{Picture};
 ghost use Rattle.dcp_commands.specs.Line.{IsPrinted, done_text};
 ghost use Rattle.dcp_commands.specs.Make.{Answers, IsBadInProject, IsEarly, IsMissingInProject, checked, frames_of, input_size, package_of, status_of};
@@ -11,8 +12,8 @@ use crate::inputs::read_plan;
 use crate::line::{done_text, print};
 use crate::status::Status;
 use crate::words::make_words;
-use make_engine::{Options, Report, make_alone};
-use mast_world::{Sink, Source, Volume};
+use make_engine::{Options, make_alone};
+use mast_world::{Bytes, Sink, Source, Volume};
 use std::alloc::Global;
 
 /// What holds where the words say nothing else.
@@ -22,17 +23,19 @@ const OPTIONS: Options = Options {
     fresh: false,
 };
 
-/// Makes the package that the words ask for.
+/// Makes the package that the words ask for, and answers what is printed of it.
 fn make_package<S: Source, V: Volume>(
     alloc: Global,
     words: &[String],
     source: &mut S,
     volume: &mut V,
-) -> Result<Report, Status>
+) -> Result<Bytes, Status>
     ensures package { S.tells → V.tells → OnOk result (package_of (S.file source.old) (map string_bytes words.now) ≡ Some (V.reads volume.new (Picture 1))) }
-    ensures frames { S.tells → IfOk result (λ report. frames_of (S.file source.old) (map string_bytes words.now) ≡ Some report.frames) }
-    ensures kept { IfOk result (λ report. report.kept ≡ 0) }
+    ensures text { IfOk result (λ text. (frames : ℕ) × (text ≡ done_text frames 0) × (S.tells → frames_of (S.file source.old) (map string_bytes words.now) ≡ Some frames)) }
     ensures taken { S.tells → OnOk result (S.taken source.new ≡ counted (S.taken source.old) (input_size (S.file source.old) (map string_bytes words.now))) }
+    ensures put { V.tells → OnOk result (V.put volume.new (Picture 1) ≡ counted (V.put volume.old (Picture 1)) (length (V.reads volume.new (Picture 1)))) }
+    ensures other_put { (file : FileId) → file ≢ Picture 1 → V.put volume.new file ≡ V.put volume.old file }
+    ensures other_reads { (file : FileId) → file ≢ Picture 1 → V.reads volume.new file ≡ V.reads volume.old file }
 
     ensures usage { result ≡ Err Status.Usage → make_words (map string_bytes words.now) ≡ None }
     ensures refused { make_words (map string_bytes words.now) ≡ None → result ≡ Err Status.Usage }
@@ -53,25 +56,8 @@ fn make_package<S: Source, V: Volume>(
         return Err(Status::Usage);
     };
     let plan = read_plan(alloc, source, asked.project.as_bytes())?;
-    Ok(make_alone(alloc, &plan, &OPTIONS, source, volume)?)
-}
-
-/// Prints how a run ended.
-fn conclude<O: Sink>(alloc: Global, outcome: Result<Report, Status>, out: &mut O) -> Status
-    requires sink { outcome ≢ Err Status.SinkFault }
-    requires done { outcome ≢ Err Status.Done }
-    requires kept { IfOk outcome (λ report. report.kept ≡ 0) }
-    ensures answer { Answers result (status_of outcome) }
-    ensures printed { O.tells → (frames : ℕ) × IfOk outcome (λ report. report.frames ≡ frames) × IsPrinted (done_text frames 0) result (O.written out.old) (O.written out.new) }
-    ensures sink_fault { result ≡ Status.SinkFault → HasRisen (O.faults out.old) (O.faults out.new) }
-{
-    match outcome {
-        Ok(report) => match done_text(alloc, report) {
-            Ok(done) => print(alloc, Status::Done, &done, out),
-            Err(_) => Status::NoMemory,
-        },
-        Err(status) => print(alloc, status, b"", out),
-    }
+    let report = make_alone(alloc, &plan, &OPTIONS, source, volume)?;
+    Ok(done_text(alloc, report)?)
 }
 
 /// Runs `make`: makes the package of the project that the words name in the volume, and prints how
@@ -83,9 +69,13 @@ pub fn run_make<S: Source, V: Volume, O: Sink>(
     volume: &mut V,
     out: &mut O,
 ) -> Status
-    // On `Done` the picture file is that of the frame-by-frame definition, and all input was read once.
+    // On `Done` the picture file is that of the frame-by-frame definition, and all input was read for it; other
+    // files stay in any case.
     ensures package { S.tells → V.tells → result ≡ Status.Done → package_of (S.file source.old) (map string_bytes words.now) ≡ Some (V.reads volume.new (Picture 1)) }
     ensures taken { S.tells → result ≡ Status.Done → S.taken source.new ≡ counted (S.taken source.old) (input_size (S.file source.old) (map string_bytes words.now)) }
+    ensures put { V.tells → result ≡ Status.Done → V.put volume.new (Picture 1) ≡ counted (V.put volume.old (Picture 1)) (length (V.reads volume.new (Picture 1))) }
+    ensures other_put { (file : FileId) → file ≢ Picture 1 → V.put volume.new file ≡ V.put volume.old file }
+    ensures other_reads { (file : FileId) → file ≢ Picture 1 → V.reads volume.new file ≡ V.reads volume.old file }
 
     // Words, project and inputs that end the command before a frame is read: the first cause in their order.
     ensures usage { result ≡ Status.Usage → make_words (map string_bytes words.now) ≡ None }
@@ -106,11 +96,11 @@ pub fn run_make<S: Source, V: Volume, O: Sink>(
     ensures sink_fault { result ≡ Status.SinkFault → HasRisen (O.faults out.old) (O.faults out.new) }
 
     // The line that is printed; that of `Done` has the project's number of frames.
-    ensures printed { O.tells → (frames : ℕ) × (S.tells → result ≡ Status.Done → frames_of (S.file source.old) (map string_bytes words.now) ≡ Some frames) × IsPrinted (done_text frames 0) result (O.written out.old) (O.written out.new) }
+    ensures printed { O.tells → (done : List ℕ) × (result ≡ Status.Done → (frames : ℕ) × (done ≡ done_text frames 0) × (S.tells → frames_of (S.file source.old) (map string_bytes words.now) ≡ Some frames)) × IsPrinted done result (O.written out.old) (O.written out.new) }
 
     // Where there is a package and no device fails, nothing but want of memory keeps it from being made.
     ensures complete { S.tells → IsSome (package_of (S.file source.old) (map string_bytes words.now)) → ¬ HasRisen (S.faults source.old) (S.faults source.new) → ¬ HasRisen (V.faults volume.old) (V.faults volume.new) → ¬ HasRisen (O.faults out.old) (O.faults out.new) → (result ≡ Status.Done) ⊎ (result ≡ Status.NoMemory) }
 {
     let outcome = make_package(alloc, words, source, volume);
-    conclude(alloc, outcome, out)
+    print(alloc, outcome, out)
 }

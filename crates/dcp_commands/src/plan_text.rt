@@ -5,7 +5,7 @@ ghost use Rattle.dcp_commands.specs.Plan.{count_text, limit_text, plan_text, siz
 use film_plan::Plan;
 use film_project::Project;
 use film_timeline::{Cell, black_count, fresh_count};
-use mast_world::Limits;
+use mast_world::{Bytes, Limits, NoMemory};
 use std::alloc::{AllocError, Global};
 
 fn size_text(alloc: Global, project: &Project) -> Result<String, AllocError>
@@ -36,11 +36,11 @@ fn count_text(alloc: Global, cells: &[Cell]) -> Result<String, AllocError>
 }
 
 /// What `plan` prints of a plan, without the last line's end.
-pub(crate) fn plan_text(alloc: Global, plan: &Plan) -> Result<Vec<u8>, AllocError>
-    ensures { IfOk result (λ text. text.items ≡ plan_text (project_facts plan.now.project)) }
+pub(crate) fn plan_text(alloc: Global, plan: &Plan) -> Result<Bytes, NoMemory>
+    ensures { IfOk result (λ text. text ≡ plan_text (project_facts plan.now.project)) }
 {
     let mut text = size_text(alloc, &plan.project)?.into_bytes();
     text.extend_from_slice(limit_text(alloc, plan.limits)?.as_bytes())?;
     text.extend_from_slice(count_text(alloc, plan.cells.as_slice())?.as_bytes())?;
-    Ok(text)
+    Ok(Bytes::from(text))
 }

@@ -1,7 +1,7 @@
 use crate::inputs::PlanEnd;
 use film_project::ProjectRefusal;
 use make_engine::{BadWhy, MakeEnd};
-use mast_world::Bytes;
+use mast_world::{Bytes, NoMemory};
 
 /// How a command ended.
 #[derive(Debug, Drop)]
@@ -22,6 +22,17 @@ pub enum Status {
     BadFrame { frame: u32, why: BadWhy },
     /// The project asks for what isn't built yet.
     Unbuilt,
+}
+
+impl From<NoMemory> for Status {
+    ghost use Rattle.std.specs.Prelude.{◌≡◌};
+    ghost use Rattle.dcp_commands.specs.declared.status.Status.TheVariants.{NoMemory};
+
+    ghost from_gives = { λ _ status. status ≡ NoMemory };
+
+    fn from(_error: NoMemory) -> Self {
+        Status::NoMemory
+    }
 }
 
 impl From<PlanEnd> for Status {
@@ -70,18 +81,14 @@ impl Status {
         match self {
             Status::Done => 0,
             Status::Usage => 2,
-            Status::ProjectRefused { refusal: _ } => 3,
-            Status::InputMissing { name: _ } => 4,
-            Status::InputShort {
-                asset: _,
-                size: _,
-                need: _,
-            } => 5,
+            Status::ProjectRefused { .. } => 3,
+            Status::InputMissing { .. } => 4,
+            Status::InputShort { .. } => 5,
             Status::SourceFault => 7,
             Status::StoreFault => 8,
             Status::SinkFault => 9,
             Status::NoMemory => 11,
-            Status::BadFrame { frame: _, why: _ } => 12,
+            Status::BadFrame { .. } => 12,
             Status::Unbuilt => 17,
         }
     }

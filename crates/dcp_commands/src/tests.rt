@@ -8,25 +8,71 @@ use std::test::Fail;
 
 const PICTURE: FileId = FileId::Picture(1);
 
-/// A project of 24 frames of 64 x 48, all of one file.
-const RGB: &str =
-    "{\"title\":\"Test\",\"kind\":\"test\",\"issued\":\"2024-05-01T12:00:00\",\"namespace\":\"6ba7b810-9dad-11d1-80b4-00c04fd430c8\",\"width\":64,\"height\":48,\"fps\":24,\"rate\":250,\"power\":11,\"channels\":0,\"frames\":24,\"assets\":[{\"id\":\"a\",\"kind\":\"rgb48\",\"file\":\"a.rgb\"}],\"picture\":[{\"asset\":\"a\",\"at\":0,\"from\":0,\"count\":24}],\"sound\":[]}";
+/// The numbers of a project.
+#[derive(Clone, Copy)]
+struct Head {
+    width: u16,
+    height: u16,
+    fps: u8,
+    rate: u16,
+    channels: u8,
+    frames: u32,
+}
 
-/// The same with a width below the least one.
-const NARROW: &str =
-    "{\"title\":\"Test\",\"kind\":\"test\",\"issued\":\"2024-05-01T12:00:00\",\"namespace\":\"6ba7b810-9dad-11d1-80b4-00c04fd430c8\",\"width\":31,\"height\":48,\"fps\":24,\"rate\":250,\"power\":11,\"channels\":0,\"frames\":24,\"assets\":[{\"id\":\"a\",\"kind\":\"rgb48\",\"file\":\"a.rgb\"}],\"picture\":[{\"asset\":\"a\",\"at\":0,\"from\":0,\"count\":24}],\"sound\":[]}";
+const BASE: Head = Head {
+    width: 64,
+    height: 48,
+    fps: 24,
+    rate: 250,
+    channels: 0,
+    frames: 24,
+};
+
+/// All frames from one file.
+const RGB: &str =
+    "\"assets\":[{\"id\":\"a\",\"kind\":\"rgb48\",\"file\":\"a.rgb\"}],\"picture\":[{\"asset\":\"a\",\"at\":0,\"from\":0,\"count\":24}],\"sound\":[]";
 
 /// A feature of two hours with six channels of sound.
-const FEATURE: &str =
-    "{\"title\":\"Feature\",\"kind\":\"feature\",\"issued\":\"2024-05-01T12:00:00\",\"namespace\":\"6ba7b810-9dad-11d1-80b4-00c04fd430c8\",\"width\":1998,\"height\":1080,\"fps\":24,\"rate\":250,\"power\":13,\"channels\":6,\"frames\":172800,\"assets\":[{\"id\":\"film\",\"kind\":\"rgb48\",\"file\":\"film.rgb\"},{\"id\":\"mix\",\"kind\":\"pcm24\",\"file\":\"mix.pcm\",\"channels\":6}],\"picture\":[{\"asset\":\"film\",\"at\":0,\"from\":0,\"count\":172800}],\"sound\":[{\"asset\":\"mix\",\"at\":0,\"from\":0,\"count\":172800,\"gains\":[[0,0,65536]]}]}";
+const FEATURE: Head = Head {
+    width: 1998,
+    height: 1080,
+    channels: 6,
+    frames: 172_800,
+    ..BASE
+};
 
-/// A clip over the end of another, which holds each frame twice, and a black frame behind them.
+const FILM: &str =
+    "\"assets\":[{\"id\":\"film\",\"kind\":\"rgb48\",\"file\":\"film.rgb\"},{\"id\":\"mix\",\"kind\":\"pcm24\",\"file\":\"mix.pcm\",\"channels\":6}],\"picture\":[{\"asset\":\"film\",\"at\":0,\"from\":0,\"count\":172800}],\"sound\":[{\"asset\":\"mix\",\"at\":0,\"from\":0,\"count\":172800,\"gains\":[[0,0,65536]]}]";
+
+/// At the least rate, so that a frame has at most 26,041 bytes.
+const LEAST: Head = Head {
+    fps: 48,
+    rate: 10,
+    frames: 5,
+    ..BASE
+};
+
+/// A clip over the end of another, which holds its first frame twice.
 const OVERLAP: &str =
-    "{\"title\":\"Test\",\"kind\":\"test\",\"issued\":\"2024-05-01T12:00:00\",\"namespace\":\"6ba7b810-9dad-11d1-80b4-00c04fd430c8\",\"width\":64,\"height\":48,\"fps\":48,\"rate\":10,\"power\":11,\"channels\":0,\"frames\":6,\"assets\":[{\"id\":\"a\",\"kind\":\"j2c\",\"file\":\"s\"},{\"id\":\"b\",\"kind\":\"j2c\",\"file\":\"t\"}],\"picture\":[{\"asset\":\"a\",\"at\":0,\"from\":0,\"count\":4},{\"asset\":\"b\",\"at\":2,\"from\":5,\"count\":3,\"hold\":2}],\"sound\":[]}";
+    "\"assets\":[{\"id\":\"a\",\"kind\":\"j2c\",\"file\":\"s\"},{\"id\":\"b\",\"kind\":\"j2c\",\"file\":\"t\"}],\"picture\":[{\"asset\":\"a\",\"at\":0,\"from\":0,\"count\":4},{\"asset\":\"b\",\"at\":2,\"from\":5,\"count\":3,\"hold\":2}],\"sound\":[]";
 
-/// The same without the black frame.
-const FULL: &str =
-    "{\"title\":\"Test\",\"kind\":\"test\",\"issued\":\"2024-05-01T12:00:00\",\"namespace\":\"6ba7b810-9dad-11d1-80b4-00c04fd430c8\",\"width\":64,\"height\":48,\"fps\":48,\"rate\":10,\"power\":11,\"channels\":0,\"frames\":5,\"assets\":[{\"id\":\"a\",\"kind\":\"j2c\",\"file\":\"s\"},{\"id\":\"b\",\"kind\":\"j2c\",\"file\":\"t\"}],\"picture\":[{\"asset\":\"a\",\"at\":0,\"from\":0,\"count\":4},{\"asset\":\"b\",\"at\":2,\"from\":5,\"count\":3,\"hold\":2}],\"sound\":[]}";
+/// Ready frames that hide a clip of a single file, and a clip of sound.
+const HIDDEN: &str =
+    "\"assets\":[{\"id\":\"a\",\"kind\":\"rgb48\",\"file\":\"a.rgb\"},{\"id\":\"b\",\"kind\":\"j2c\",\"file\":\"s\"},{\"id\":\"c\",\"kind\":\"pcm24\",\"file\":\"c.pcm\",\"channels\":1}],\"picture\":[{\"asset\":\"a\",\"at\":0,\"from\":0,\"count\":2},{\"asset\":\"b\",\"at\":0,\"from\":0,\"count\":2}],\"sound\":[{\"asset\":\"c\",\"at\":0,\"from\":0,\"count\":2,\"gains\":[]}]";
+
+fn text_of(alloc: Global, head: Head, lists: &str) -> Result<String, AllocError> {
+    let Head {
+        width,
+        height,
+        fps,
+        rate,
+        channels,
+        frames,
+    } = head;
+    format!(in alloc;
+        "{{\"title\":\"Test\",\"kind\":\"test\",\"issued\":\"2024-05-01T12:00:00\",\"namespace\":\"6ba7b810-9dad-11d1-80b4-00c04fd430c8\",\"width\":{width},\"height\":{height},\"fps\":{fps},\"rate\":{rate},\"power\":11,\"channels\":{channels},\"frames\":{frames},{lists}}}"
+    )
+}
 
 fn push_file(
     alloc: Global,
@@ -45,32 +91,36 @@ fn push_file(
 }
 
 /// The project file alone.
-fn files_of(alloc: Global, project: &str) -> Result<List<MemFile>, AllocError> {
+fn project(alloc: Global, head: Head, lists: &str) -> Result<List<MemFile>, AllocError> {
+    let text = text_of(alloc, head, lists)?;
     let mut files = List::new(alloc);
     files.push(MemFile {
         name: Bytes::copy_of(alloc, b"p.json")?,
-        size: project.len() as u64,
+        size: text.len() as u64,
         fill: 0,
-        bytes: Bytes::copy_of(alloc, project.as_bytes())?,
+        bytes: Bytes::from(text.into_bytes()),
     })?;
     Ok(files)
 }
 
-/// A project with one more file.
-fn one_file(
-    alloc: Global,
-    project: &str,
-    name: &str,
-    size: u64,
-) -> Result<List<MemFile>, AllocError> {
-    let mut files = files_of(alloc, project)?;
-    push_file(alloc, &mut files, name, size, 7)?;
+/// The project of one file, which has this size.
+fn rgb(alloc: Global, size: u64) -> Result<List<MemFile>, AllocError> {
+    let mut files = project(alloc, BASE, RGB)?;
+    push_file(alloc, &mut files, "a.rgb", size, 0)?;
     Ok(files)
 }
 
-/// The frames that `OVERLAP` and `FULL` show; the last one has this size.
-fn shown_files(alloc: Global, project: &str, last: u64) -> Result<List<MemFile>, AllocError> {
-    let mut files = files_of(alloc, project)?;
+/// The feature, with sound of this size.
+fn feature(alloc: Global, sound: u64) -> Result<List<MemFile>, AllocError> {
+    let mut files = project(alloc, FEATURE, FILM)?;
+    push_file(alloc, &mut files, "film.rgb", 2_237_248_512_000, 7)?;
+    push_file(alloc, &mut files, "mix.pcm", sound, 0)?;
+    Ok(files)
+}
+
+/// The clips that overlap and their frames, of which the last one has this size.
+fn overlap(alloc: Global, head: Head, last: u64) -> Result<List<MemFile>, AllocError> {
+    let mut files = project(alloc, head, OVERLAP)?;
     push_file(alloc, &mut files, "s/000000.j2c", 205, 1)?;
     push_file(alloc, &mut files, "s/000001.j2c", 300, 2)?;
     push_file(alloc, &mut files, "t/000005.j2c", 1000, 3)?;
@@ -175,7 +225,7 @@ fn push_item(alloc: Global, picture: &mut Vec<u8>, size: u16, fill: u8) -> Resul
 #[test]
 fn frames_are_copied_in_order(rt: HostRuntime) -> Result<(), Fail> {
     let alloc = rt.alloc();
-    let ran = make_run(alloc, &MAKE, shown_files(alloc, FULL, 26_041)?, [0, 0, 0])?;
+    let ran = make_run(alloc, &MAKE, overlap(alloc, LEAST, 26_041)?, [0, 0, 0])?;
     assert_eq!(rt;
         ran.printed.written(),
         b"done: 5 frames, 0 kept\n".as_slice()
@@ -189,7 +239,8 @@ fn frames_are_copied_in_order(rt: HostRuntime) -> Result<(), Fail> {
     push_item(alloc, &mut picture, 26_041, 4)?;
     assert!(rt; ran.volume.bytes(PICTURE) == picture.as_slice());
     // The frame that is held is read once.
-    assert_eq!(rt; ran.source.taken(), FULL.len() as u64 + 27_546);
+    let text = text_of(alloc, LEAST, OVERLAP)?.len() as u64;
+    assert_eq!(rt; ran.source.taken(), text + 27_546);
     Ok(())
 }
 
@@ -197,29 +248,20 @@ fn frames_are_copied_in_order(rt: HostRuntime) -> Result<(), Fail> {
 fn make_names_what_is_wrong(rt: HostRuntime) -> Result<(), Fail> {
     let alloc = rt.alloc();
     let usage = "usage: dcp make|plan|frame|read|trial\n";
-    let rgb = one_file(alloc, RGB, "a.rgb", 442_368)?;
-    expect_make(&rt, alloc, &["make", "p.json"], rgb, usage, 2, 0)?;
-    let rgb = one_file(alloc, RGB, "a.rgb", 442_368)?;
+    expect_make(&rt, alloc, &["make", "p.json"], rgb(alloc, 0)?, usage, 2, 0)?;
+    let workers = ["make", "p.json", "out", "--workers", "17"];
+    expect_make(&rt, alloc, &workers, rgb(alloc, 0)?, usage, 2, 0)?;
+    let other = ["make", "q.json", "out"];
     expect_make(
         &rt,
         alloc,
-        &["make", "p.json", "out", "--workers", "17"],
-        rgb,
-        usage,
-        2,
-        0,
-    )?;
-    let rgb = one_file(alloc, RGB, "a.rgb", 442_368)?;
-    expect_make(
-        &rt,
-        alloc,
-        &["make", "q.json", "out"],
-        rgb,
+        &other,
+        rgb(alloc, 0)?,
         "input missing: q.json\n",
         4,
         0,
     )?;
-    let narrow = files_of(alloc, NARROW)?;
+    let narrow = project(alloc, Head { width: 31, ..BASE }, RGB)?;
     expect_make(
         &rt,
         alloc,
@@ -229,23 +271,12 @@ fn make_names_what_is_wrong(rt: HostRuntime) -> Result<(), Fail> {
         3,
         0,
     )?;
-    let none = files_of(alloc, RGB)?;
+    let none = project(alloc, BASE, RGB)?;
     expect_make(&rt, alloc, &MAKE, none, "input missing: a.rgb\n", 4, 0)?;
-    let short = one_file(alloc, RGB, "a.rgb", 442_367)?;
-    expect_make(
-        &rt,
-        alloc,
-        &MAKE,
-        short,
-        "input short: a has 442367 needs 442368\n",
-        5,
-        0,
-    )?;
-    let rgb = one_file(alloc, RGB, "a.rgb", 442_368)?;
-    expect_make(&rt, alloc, &MAKE, rgb, "unbuilt\n", 17, 0)?;
-    let black = shown_files(alloc, OVERLAP, 26_041)?;
-    expect_make(&rt, alloc, &MAKE, black, "unbuilt\n", 17, 0)?;
-    let first = one_file(alloc, FULL, "s/000000.j2c", 205)?;
+    let short = "input short: a has 442367 needs 442368\n";
+    expect_make(&rt, alloc, &MAKE, rgb(alloc, 442_367)?, short, 5, 0)?;
+    let mut first = project(alloc, LEAST, OVERLAP)?;
+    push_file(alloc, &mut first, "s/000000.j2c", 205, 1)?;
     expect_make(
         &rt,
         alloc,
@@ -255,7 +286,7 @@ fn make_names_what_is_wrong(rt: HostRuntime) -> Result<(), Fail> {
         4,
         225,
     )?;
-    let long = shown_files(alloc, FULL, 26_042)?;
+    let long = overlap(alloc, LEAST, 26_042)?;
     expect_make(
         &rt,
         alloc,
@@ -268,36 +299,80 @@ fn make_names_what_is_wrong(rt: HostRuntime) -> Result<(), Fail> {
     Ok(())
 }
 
+/// Raw pictures, a black frame, sound.
+#[test]
+fn make_tells_what_is_not_built(rt: HostRuntime) -> Result<(), Fail> {
+    let alloc = rt.alloc();
+    let unbuilt = "unbuilt\n";
+    expect_make(&rt, alloc, &MAKE, rgb(alloc, 442_368)?, unbuilt, 17, 0)?;
+    let black = overlap(alloc, Head { frames: 6, ..LEAST }, 26_041)?;
+    expect_make(&rt, alloc, &MAKE, black, unbuilt, 17, 0)?;
+    let sound = overlap(
+        alloc,
+        Head {
+            channels: 1,
+            ..LEAST
+        },
+        26_041,
+    )?;
+    expect_make(&rt, alloc, &MAKE, sound, unbuilt, 17, 0)?;
+    Ok(())
+}
+
+/// Single files are looked for also where later clips hide them, and where no sound is made.
+#[test]
+fn hidden_inputs_are_wanted(rt: HostRuntime) -> Result<(), Fail> {
+    let alloc = rt.alloc();
+    let head = Head { frames: 2, ..BASE };
+    let mut files = project(alloc, head, HIDDEN)?;
+    push_file(alloc, &mut files, "s/000000.j2c", 205, 1)?;
+    push_file(alloc, &mut files, "s/000001.j2c", 205, 1)?;
+    push_file(alloc, &mut files, "c.pcm", 12_000, 1)?;
+    expect_make(&rt, alloc, &MAKE, files, "input missing: a.rgb\n", 4, 0)?;
+    let mut files = project(alloc, head, HIDDEN)?;
+    push_file(alloc, &mut files, "a.rgb", 36_864, 1)?;
+    expect_make(&rt, alloc, &MAKE, files, "input missing: c.pcm\n", 4, 0)?;
+    let mut files = project(alloc, head, HIDDEN)?;
+    push_file(alloc, &mut files, "a.rgb", 36_864, 1)?;
+    push_file(alloc, &mut files, "c.pcm", 11_999, 1)?;
+    expect_make(
+        &rt,
+        alloc,
+        &MAKE,
+        files,
+        "input short: c has 11999 needs 12000\n",
+        5,
+        0,
+    )?;
+    Ok(())
+}
+
 #[test]
 fn plan_shows_a_run_before_it_starts(rt: HostRuntime) -> Result<(), Fail> {
     let alloc = rt.alloc();
     let plan = ["plan", "p.json"];
-    let mut files = one_file(alloc, FEATURE, "film.rgb", 2_237_248_512_000)?;
-    push_file(alloc, &mut files, "mix.pcm", 6_220_800_000, 0)?;
     let lines =
         "frames 172800\nsize 1998x1080\nfps 24\nlimit 1302083\ncomponent 1041666\nfresh 172800\nblack 0\n";
-    expect_run(&rt, alloc, &plan, files, lines, 0)?;
-    let mut files = one_file(alloc, FEATURE, "film.rgb", 2_237_248_512_000)?;
-    push_file(alloc, &mut files, "mix.pcm", 6_220_799_999, 0)?;
+    expect_run(&rt, alloc, &plan, feature(alloc, 6_220_800_000)?, lines, 0)?;
     let short = "input short: mix has 6220799999 needs 6220800000\n";
-    expect_run(&rt, alloc, &plan, files, short, 5)?;
+    expect_run(&rt, alloc, &plan, feature(alloc, 6_220_799_999)?, short, 5)?;
     let lines = "frames 6\nsize 64x48\nfps 48\nlimit 26041\ncomponent 20833\nfresh 5\nblack 1\n";
-    expect_run(&rt, alloc, &plan, files_of(alloc, OVERLAP)?, lines, 0)?;
-    let refused = "project refused: P6 width 31\n";
-    expect_run(&rt, alloc, &plan, files_of(alloc, NARROW)?, refused, 3)?;
-    let missing = "input missing: mix.pcm\n";
-    let film = one_file(alloc, FEATURE, "film.rgb", 0)?;
-    expect_run(&rt, alloc, &plan, film, missing, 4)?;
-    let usage = "usage: dcp make|plan|frame|read|trial\n";
-    expect_run(&rt, alloc, &["plan"], files_of(alloc, RGB)?, usage, 2)?;
+    let black = project(alloc, Head { frames: 6, ..LEAST }, OVERLAP)?;
+    expect_run(&rt, alloc, &plan, black, lines, 0)?;
+    let narrow = project(alloc, Head { width: 31, ..BASE }, RGB)?;
     expect_run(
         &rt,
         alloc,
-        &["frame", "p.json"],
-        files_of(alloc, RGB)?,
-        usage,
-        2,
+        &plan,
+        narrow,
+        "project refused: P6 width 31\n",
+        3,
     )?;
+    let none = project(alloc, BASE, RGB)?;
+    expect_run(&rt, alloc, &plan, none, "input missing: a.rgb\n", 4)?;
+    let usage = "usage: dcp make|plan|frame|read|trial\n";
+    expect_run(&rt, alloc, &["plan"], rgb(alloc, 0)?, usage, 2)?;
+    expect_run(&rt, alloc, &["frame", "p.json"], rgb(alloc, 0)?, usage, 2)?;
     Ok(())
 }
 
@@ -308,7 +383,7 @@ fn expect_fault(
     printed: &str,
     exit: u8,
 ) -> Result<(), AllocError> {
-    let ran = make_run(alloc, &MAKE, shown_files(alloc, FULL, 26_041)?, failing)?;
+    let ran = make_run(alloc, &MAKE, overlap(alloc, LEAST, 26_041)?, failing)?;
     assert_eq!(rt; ran.printed.written(), printed.as_bytes());
     assert_eq!(rt; ran.exit, exit);
     Ok(())

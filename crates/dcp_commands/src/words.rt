@@ -26,16 +26,12 @@ pub(crate) fn make_words(words: &[String]) -> Option<Asked<'_>>
     let [command, project, out] = words else {
         return None;
     };
-    let accepted = command.as_str() == "make"
-        && is_positional(project.as_str())
-        && is_positional(out.as_str());
-    if !accepted {
-        return None;
+    let (project, out) = (project.as_str(), out.as_str());
+    if command.as_str() == "make" && is_positional(project) && is_positional(out) {
+        Some(Asked { project, out })
+    } else {
+        None
     }
-    Some(Asked {
-        project: project.as_str(),
-        out: out.as_str(),
-    })
 }
 
 /// The name of the project file that is to be planned.

@@ -20,7 +20,7 @@ pub struct Ids {
     pub sound: [u8; 16],
 }
 
-pub fn ids_of(project: &Project) -> Ids
+pub(crate) fn ids_of(project: &Project) -> Ids
     ensures { result ≡ spec.ids_of (project_facts project.now) }
 {
     Ids {

@@ -5,7 +5,7 @@ ghost use Rattle.film_project.specs.Plain.{asset_facts, picture_facts, sound_fac
 use film_project::{Asset, AssetKind, PictureClip, Project, SoundClip};
 
 /// How many bytes the clips need of the asset at this place: 0 where it isn't a single file.
-pub fn need_of(project: &Project, place: usize, asset: &Asset) -> u64
+pub(crate) fn need_of(project: &Project, place: usize, asset: &Asset) -> u64
     ensures { result ≡ spec.need_of (project_facts project.now) place (asset_facts asset.now) }
 {
     match asset.kind {

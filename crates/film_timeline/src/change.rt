@@ -24,7 +24,7 @@ fn sooner(clip: &PictureClip, f: u32, until: u32) -> u32
 
 /// A frame after `f`, up to which the last clip that covers a frame stays the same: the next one
 /// where a clip begins or ends, or `frames`.
-pub fn next_change(clips: &[PictureClip], f: u32, frames: u32) -> u32
+pub(crate) fn next_change(clips: &[PictureClip], f: u32, frames: u32) -> u32
     requires { f < frames }
     ensures later { f < result }
     ensures steady { (g : ℕ) → f ≤ g → g < result

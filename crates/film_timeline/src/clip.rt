@@ -8,14 +8,14 @@ use crate::cell::Cell;
 use film_project::PictureClip;
 
 /// Whether the clip shows a frame of its asset in frame `f`.
-pub fn covers_frame(clip: &PictureClip, f: u32) -> bool
+pub(crate) fn covers_frame(clip: &PictureClip, f: u32) -> bool
     ensures { result ≡ covers (picture_facts clip.now) f }
 {
     clip.at <= f && f < clip.at + clip.count
 }
 
 /// The last of these clips that covers frame `f`.
-pub fn find_last(clips: &[PictureClip], f: u32) -> Option<PictureClip>
+pub(crate) fn find_last(clips: &[PictureClip], f: u32) -> Option<PictureClip>
     ensures { result ≡ find (λ clip. covers (picture_facts clip) f) (reverse clips.now) }
 {
     clips
@@ -26,7 +26,7 @@ pub fn find_last(clips: &[PictureClip], f: u32) -> Option<PictureClip>
 }
 
 /// What the clip shows in frame `f`, which it covers, or black where there is no clip.
-pub fn cell_of(shown: Option<PictureClip>, f: u32) -> Cell
+pub(crate) fn cell_of(shown: Option<PictureClip>, f: u32) -> Cell
     requires { ForSome shown (λ clip. IsTrue (covers (picture_facts clip) f)) }
     ensures { result ≡ option_map_or (λ clip. cell_in clip f) (option_map picture_facts shown) Black }
 {

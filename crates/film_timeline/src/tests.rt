@@ -1,6 +1,6 @@
 //! A clip over another, as they are shown.
 
-use crate::{Cell, cells, is_repeat};
+use crate::{Cell, black_count, cells, fresh_count, is_repeat};
 use film_project::read_project;
 use std::test::Fail;
 
@@ -23,7 +23,8 @@ fn a_later_clip_hides_an_earlier_one(rt: HostRuntime) -> Result<(), Fail> {
         Ok(project) => {
             let cells = cells(alloc, &project)?;
             assert_eq!(rt; cells.as_slice(), SHOWN.as_slice());
-            assert_eq!(rt; cells.len(), 6);
+            assert_eq!(rt; fresh_count(cells.as_slice()), 5);
+            assert_eq!(rt; black_count(cells.as_slice()), 1);
             for f in 0..6 {
                 assert_eq!(rt; is_repeat(cells.as_slice(), f), f == 3, "at {f}");
             }

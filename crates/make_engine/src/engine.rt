@@ -39,6 +39,7 @@ fn append<V: Volume>(volume: &mut V, place: u64, item: &[u8]) -> Result<(), Make
     ensures written { V.tells → OnOk result (V.reads volume.new PICTURE ≡ V.reads volume.old PICTURE ++ item.now) }
     ensures count_put { V.put volume.new PICTURE ≡ counted_on_ok (V.put volume.old PICTURE) (length item.now) result }
     ensures other_put { (file : FileId) → file ≢ PICTURE → V.put volume.new file ≡ V.put volume.old file }
+    ensures other_reads { (file : FileId) → file ≢ PICTURE → V.reads volume.new file ≡ V.reads volume.old file }
 
     ensures faults_kept { V.faults volume.old ≤ V.faults volume.new }
     ensures fault { IsOkUnless result MakeEnd.StoreFault }
@@ -62,6 +63,7 @@ fn copy_frames<S: Source, V: Volume>(
     ensures copied { S.tells → OnOk result (HasCopied V.tells (S.file source.old) (project_facts plan.now.project) plan.now.project.frames (V.reads volume.new PICTURE) (S.taken source.old) (S.taken source.new)) }
     ensures put { V.tells → OnOk result (V.put volume.new PICTURE ≡ counted (V.put volume.old PICTURE) (length (V.reads volume.new PICTURE))) }
     ensures other_put { (file : FileId) → file ≢ PICTURE → V.put volume.new file ≡ V.put volume.old file }
+    ensures other_reads { (file : FileId) → file ≢ PICTURE → V.reads volume.new file ≡ V.reads volume.old file }
 
     ensures unbuilt { result ≡ Err MakeEnd.Unbuilt → IsFalse (is_built (project_facts plan.now.project)) }
     ensures missing { (name : List ℕ) → result ≡ Err (MakeEnd.InputMissing name) → IsMissingFrame S.tells (S.file source.old) (project_facts plan.now.project) name }
@@ -98,9 +100,10 @@ pub fn make_alone<S: Source, V: Volume>(
     ensures report { IfOk result (λ report. report ≡ record { frames = plan.now.project.frames; kept = 0 }) }
     ensures taken { S.tells → OnOk result (S.taken source.new ≡ counted (S.taken source.old) (frames_size (S.file source.old) (project_facts plan.now.project))) }
 
-    // What was put, in bytes.
+    // What was put, in bytes; other files stay.
     ensures put { V.tells → OnOk result (V.put volume.new (Picture 1) ≡ counted (V.put volume.old (Picture 1)) (length (V.reads volume.new (Picture 1)))) }
     ensures other_put { (file : FileId) → file ≢ Picture 1 → V.put volume.new file ≡ V.put volume.old file }
+    ensures other_reads { (file : FileId) → file ≢ Picture 1 → V.reads volume.new file ≡ V.reads volume.old file }
 
     // What isn't built yet is found out before the first write.
     ensures unbuilt { result ≡ Err MakeEnd.Unbuilt → IsFalse (is_built (project_facts plan.now.project)) }

@@ -12,7 +12,7 @@ use film_timeline::Cell;
 use std::alloc::{AllocError, Global};
 
 /// The asset at this place, if it is a folder of codestreams.
-fn find_folder(project: &Project, place: u32) -> Option<&Asset>
+fn find_codestreams(project: &Project, place: u32) -> Option<&Asset>
     ensures at { IfSome result (λ asset. asset_facts asset.now ≡ asset_at (project_facts project.now) place) }
     ensures j2c { IfSome result (λ asset. asset.now.kind ≡ J2c) }
     ensures none { IfNone result (is_j2c (asset_at (project_facts project.now) place).kind ≡ false) }
@@ -30,7 +30,7 @@ fn is_ready(project: &Project, cell: Cell) -> bool
     ensures { result ≡ is_ready (project_facts project.now) cell }
 {
     match cell {
-        Cell::Frame { asset, .. } => find_folder(project, asset).is_some(),
+        Cell::Frame { asset, .. } => find_codestreams(project, asset).is_some(),
         Cell::Black => false,
     }
 }
@@ -60,7 +60,7 @@ pub(crate) fn file_of(
     let Cell::Frame { asset, index } = cell else {
         return Ok(None);
     };
-    let Some(asset) = find_folder(project, asset) else {
+    let Some(asset) = find_codestreams(project, asset) else {
         return Ok(None);
     };
     Ok(Some(frame_name(alloc, asset, index)?))

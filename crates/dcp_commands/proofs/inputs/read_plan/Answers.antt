@@ -1,7 +1,6 @@
 use Rattle.std.proofs.Common.{◌≡◌, Err, ap, ◌∙◌}
 use Rattle.std.proofs.lemmas.Result.{err_from_is_err_and}
 use Rattle.film_plan.specs.declared.refusal.PlanRefusal.TheVariants as plan
-use Rattle.film_project.specs.Plain.{project_facts}
 use Rattle.dcp_commands.specs.Inputs.{short_end}
 use Rattle.dcp_commands.specs.declared.inputs.PlanEnd.TheVariants.{InputShort}
 use Rattle.dcp_commands.proofs.Planning.{short_end_is}

@@ -1,8 +1,7 @@
-use Rattle.std.proofs.Common.{◌≡◌, ◌++◌, length, map, ap, ◌∙◌, arith, rules}
+use Rattle.std.proofs.Common.{◌≡◌, ◌++◌, length, ap, ◌∙◌, arith, rules}
 use Rattle.film_plan.proofs.Cells.{length-cells_of}
 use Rattle.film_plan.specs.Plan.{limits_of}
-use Rattle.film_project.specs.Plain.{picture_facts, project_facts}
-use Rattle.film_timeline.specs.Timeline.{cell_at}
+use Rattle.film_project.specs.Plain.{project_facts}
 use Rattle.dcp_commands.specs.Plan.{count_text, limit_text, size_text}
 use Rattle.dcp_commands.proofs.plan_text.plan_text.Goals as goal
 
@@ -17,6 +16,6 @@ returns c =
     let plan = c.args.plan.now in
     let project = project_facts plan.project in
     let written : c.extend_from_slice-2.new.self.items ≡ size_text project ++ limit_text plan.limits ++ count_text plan.cells = search rules in
-    written
+    c.from.ensures ∙ written
     ∙ ap (λ limits. size_text project ++ limit_text limits ++ count_text plan.cells) plan.limits_are
     ∙ ap (λ cells. size_text project ++ limit_text (limits_of project) ++ count_text cells) plan.cells_are

@@ -15,6 +15,7 @@ loop-frame-init g c = record {
   copied = λ tells. record { values = []; fresh = []; shown = refl; read = refl; written = λ told. c.requires.empty told; taken = omega arith };
   put = omega arith;
   other_put = λ file other. refl;
+  other_reads = λ file other. refl;
   files = refl;
   faults = omega arith;
   volume_faults = omega arith;
@@ -50,6 +51,7 @@ loop-frame-preserved g c =
           (before.copied tells) (took tells) end.written;
       put = counted_next (g.V.Volume.put c.args.volume.now PICTURE) c.loop-frame.place (length item) held (g.V.Volume.put c.loop-frame.volume PICTURE) (g.V.Volume.put c.append.new.volume PICTURE) end.count_put size before.put;
       other_put = λ file other. end.other_put file other ∙ before.other_put file other;
+      other_reads = λ file other. end.other_reads file other ∙ before.other_reads file other;
       files = step.same_files ∙ before.files;
       faults = omega (arith, before.faults, step.faults_kept);
       volume_faults = omega (arith, before.volume_faults, end.faults_kept);

@@ -21,6 +21,7 @@ invariant-loop-frame g l =
       copied : source.tells → HasCopied volume.tells (source.file l.fn.source) project l.frame (volume.reads l.volume PICTURE) (source.taken l.fn.source) (source.taken l.source);
       put : volume.put l.volume PICTURE ≡ counted (volume.put l.fn.volume PICTURE) l.place;
       other_put : (file : FileId) → file ≢ PICTURE → volume.put l.volume file ≡ volume.put l.fn.volume file;
+      other_reads : (file : FileId) → file ≢ PICTURE → volume.reads l.volume file ≡ volume.reads l.fn.volume file;
       files : source.file l.source ≡ source.file l.fn.source;
       faults : source.faults l.fn.source ≤ source.faults l.source;
       volume_faults : volume.faults l.fn.volume ≤ volume.faults l.volume;

@@ -39,3 +39,7 @@ returns-clause-taken g c = λ tells.
 pub returns-clause-other_put : goal.returns-clause-other_put
 returns-clause-other_put g c = λ file other.
     ap (λ put. put file) c.sync.ensures.same_put ∙ c.copy_frames.ensures.other_put file other ∙ ap (λ put. put file) c.cut.ensures.same_put
+
+pub returns-clause-other_reads : goal.returns-clause-other_reads
+returns-clause-other_reads g c = λ file other.
+    ap (λ reads. reads file) c.sync.ensures.same_reads ∙ c.copy_frames.ensures.other_reads file other ∙ c.cut.ensures.other_reads file other

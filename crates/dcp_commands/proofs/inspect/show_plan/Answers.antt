@@ -1,0 +1,6 @@
+use Rattle.std.proofs.Common.{rules}
+use Rattle.film_project.specs.Plain.{project_facts}
+use Rattle.dcp_commands.proofs.inspect.show_plan.Goals as goal
+
+pub returns-clause-text : goal.returns-clause-text
+returns-clause-text g c = (project_facts c.in_ok-plan.plan.project, search rules, λ tells. search rules)
