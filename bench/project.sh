@@ -21,45 +21,68 @@ cat > "$work/crates/large/src/main.rt" <<'RT'
 #![tactic(auto)]
 
 use film_plan::plan;
-use film_project::{project_text, read_project};
+use film_project::{Project, project_text, read_project};
 use film_timeline::cells;
 use serde_json::Value;
 use std::fs;
 use std::io;
 use std::time::Instant;
 
+/// The part of `serde_json` alone.
+fn time_json(rt: &HostRuntime, text: &[u8]) -> io::Result<()> {
+    let start = Instant::now(rt)?;
+    let value = Value::from_slice(rt.alloc(), text);
+    let parsed = start.elapsed(rt)?;
+    println!(rt; "json read {} {}", value.is_ok(), parsed.as_millis())?;
+    if let Ok(value) = value {
+        let start = Instant::now(rt)?;
+        let printed = value.to_vec(rt.alloc());
+        let took = start.elapsed(rt)?;
+        println!(rt; "json print {} {}", printed.is_ok(), took.as_millis())?;
+    }
+    Ok(())
+}
+
+fn time_text(rt: &HostRuntime, project: &Project) -> io::Result<()> {
+    let start = Instant::now(rt)?;
+    let printed = project_text(rt.alloc(), project);
+    let took = start.elapsed(rt)?;
+    println!(rt; "print {} {}", printed.is_ok(), took.as_millis())
+}
+
+fn time_cells(rt: &HostRuntime, project: &Project) -> io::Result<()> {
+    let start = Instant::now(rt)?;
+    let shown = cells(rt.alloc(), project);
+    let took = start.elapsed(rt)?;
+    println!(rt; "cells {} {}", shown.is_ok(), took.as_millis())
+}
+
+fn time_plan(rt: &HostRuntime, project: &Project) -> io::Result<()> {
+    let sizes = Vec::from_elem(rt.alloc(), u64::MAX, project.assets.len())?;
+    let start = Instant::now(rt)?;
+    let planned = plan(rt.alloc(), project, &sizes);
+    let took = start.elapsed(rt)?;
+    println!(rt; "plan {} {}", planned.is_ok(), took.as_millis())
+}
+
+fn time_project(rt: &HostRuntime, project: &Project) -> io::Result<()> {
+    time_text(rt, project)?;
+    time_cells(rt, project)?;
+    time_plan(rt, project)
+}
+
 fn main(rt: HostRuntime) -> io::Result<()> {
     let text = fs::read(&rt, "project.json")?;
     println!(rt; "bytes {}", text.len())?;
     for _ in 0..5u32 {
-        let start = Instant::now(&rt)?;
-        let value = Value::from_slice(rt.alloc(), text.as_slice());
-        let parsed = start.elapsed(&rt)?;
-        println!(rt; "json read {} {}", value.is_ok(), parsed.as_millis())?;
-        if let Ok(value) = value {
-            let start = Instant::now(&rt)?;
-            let printed = value.to_vec(rt.alloc());
-            let took = start.elapsed(&rt)?;
-            println!(rt; "json print {} {}", printed.is_ok(), took.as_millis())?;
-        }
+        time_json(&rt, text.as_slice())?;
         let start = Instant::now(&rt)?;
         let project = read_project(rt.alloc(), text.as_slice());
-        let read = start.elapsed(&rt)?;
-        println!(rt; "read {} {}", project.is_ok(), read.as_millis())?;
-        if let Ok(project) = project {
-            let start = Instant::now(&rt)?;
-            let printed = project_text(rt.alloc(), &project);
-            let took = start.elapsed(&rt)?;
-            println!(rt; "print {} {}", printed.is_ok(), took.as_millis())?;
-            let start = Instant::now(&rt)?;
-            let shown = cells(rt.alloc(), &project);
-            let took = start.elapsed(&rt)?;
-            println!(rt; "cells {} {}", shown.is_ok(), took.as_millis())?;
-            let sizes = Vec::from_elem(rt.alloc(), u64::MAX, project.assets.len())?;
-            let start = Instant::now(&rt)?;
-            let planned = plan(rt.alloc(), &project, &sizes);
-            let took = start.elapsed(&rt)?;
-            println!(rt; "plan {} {}", planned.is_ok(), took.as_millis())?;
+        let took = start.elapsed(&rt)?;
+        println!(rt; "read {} {}", project.is_ok(), took.as_millis())?;
+        match project {
+            Ok(project) => time_project(&rt, &project)?,
+            Err(refusal) => println!(rt; "{refusal:?}")?,
         }
     }
     Ok(())
