@@ -9,6 +9,7 @@ pub mod Contexts
 pub mod Count
 pub mod Cut
 pub mod Encode
+pub mod Failing
 pub mod FileEntry
 pub mod Grid
 pub mod MainReading

@@ -1,5 +1,6 @@
 ghost use Rattle.std.specs.Prelude.{◌≡◌, ◌≤◌, ◌↔◌, OnErr, OnOk, IsErr, Contains};
 ghost use Rattle.mast_world.specs.Count.{counted, HasRisen};
+ghost use Rattle.mast_world.specs.Failing.{planned_failures};
 
 use crate::{Failed, List};
 
@@ -20,7 +21,7 @@ pub(crate) struct Failing {
 
 impl Failing {
     pub(crate) fn new(planned: List<u64>) -> Self
-        ensures { result.faults ≡ 0 }
+        ensures { result ≡ planned_failures planned }
     {
         Failing {
             planned,

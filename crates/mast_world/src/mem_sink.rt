@@ -1,4 +1,5 @@
 ghost use Rattle.std.specs.Prelude.{◌≡◌, []};
+ghost use Rattle.mast_world.specs.Failing.{planned_failures};
 
 use crate::failing::Failing;
 use crate::{Failed, List, Sink};
@@ -15,6 +16,7 @@ impl MemSink {
     pub fn new(alloc: Global, failing: List<u64>) -> Self
         ensures written { ⟦<MemSink as Sink>⟧.written result ≡ [] }
         ensures faults { ⟦<MemSink as Sink>⟧.faults result ≡ 0 }
+        ensures failing { result.failing ≡ planned_failures failing }
     {
         MemSink {
             written: Vec::new(alloc),

@@ -1,6 +1,7 @@
 ghost use Rattle.std.specs.Prelude.{◌≡◌, ◌≤◌, ◌+◌, length, option_map};
 ghost use Rattle.mast_world.specs.Content.{part};
 ghost use Rattle.mast_world.specs.MemFile.{content, content_of};
+ghost use Rattle.mast_world.specs.Failing.{planned_failures};
 
 use crate::failing::{Failing, count_on};
 use crate::{Bytes, Failed, List, Source};
@@ -46,6 +47,7 @@ impl MemSource {
     pub fn new(files: List<MemFile>, failing: List<u64>) -> Self
         ensures files { ⟦<MemSource as Source>⟧.file result ≡ content_of files }
         ensures faults { ⟦<MemSource as Source>⟧.faults result ≡ 0 }
+        ensures failing { result.failing ≡ planned_failures failing }
         ensures taken { ⟦<MemSource as Source>⟧.taken result ≡ 0 }
         ensures absent { ⟦<MemSource as Source>⟧.absent result ≡ 0 }
     {

@@ -4,6 +4,7 @@ ghost use Rattle.mast_world.specs.FileEntry.{FirstAt};
 ghost use Rattle.mast_world.specs.StoredFile.{stored_bytes, stored_put};
 ghost use Rattle.mast_world.specs.Count.{counted_on_ok};
 ghost use Rattle.mast_world.specs.declared.volume.FileId.{FileId};
+ghost use Rattle.mast_world.specs.Failing.{planned_failures};
 
 use crate::failing::{Failing, count_on};
 use crate::file_entry::{FileEntry, position_of};
@@ -29,6 +30,7 @@ impl MemVolume {
     pub fn new(alloc: Global, failing: List<u64>) -> Self
         ensures empty { (file : FileId) → ⟦<MemVolume as Volume>⟧.reads result file ≡ [] }
         ensures faults { ⟦<MemVolume as Volume>⟧.faults result ≡ 0 }
+        ensures failing { result.failing ≡ planned_failures failing }
         ensures put { (file : FileId) → ⟦<MemVolume as Volume>⟧.put result file ≡ 0 }
     {
         MemVolume {
