@@ -147,10 +147,12 @@ impl<R: Files<File = File> + Drop> FolderVolume<R> {
         ensures same_put { folder_put self.new.files.items ≡ folder_put self.old.files.items }
         ensures same_faults { self.new.faults ≡ self.old.faults }
     {
-        match self.entry_of(file, false)? {
-            Some(entry) => self.files[entry].value.handle.sync_all(),
-            None => Ok(()),
-        }
+        let Some(entry) = self.entry_of(file, false)? else {
+            return Ok(());
+        };
+        self.files[entry].value.handle.sync_all()?;
+        // A new file's name is on the disk only with its folder.
+        File::open(&self.rt, self.folder.as_str())?.sync_all()
     }
 
     fn fail(&mut self) -> Failed

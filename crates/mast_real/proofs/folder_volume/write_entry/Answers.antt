@@ -1,5 +1,4 @@
 use Rattle.std.proofs.Common.{sym, ◌∙◌, ap, length}
-use Rattle.std.proofs.lemmas.Result.{err_from_is_err_and}
 use Rattle.mast_world.specs.Count.{counted}
 use Rattle.mast_world.proofs.FileEntryLemmas.{find_first, find_written, find_others}
 use Rattle.mast_real.specs.FolderFile.{put_in}
