@@ -1,5 +1,5 @@
 -- How a run of `make` ends, from how its parts end.
-use Rattle.std.proofs.Common.{◌≡◌, ℕ, ◌+◌, ◌≤◌, Bool, true, false, cond, List, [], length, Some, Result, Ok, Err, inl, inr, refl, ap, subst, sym, ◌∙◌, arith}
+use Rattle.std.proofs.Common.{◌≡◌, ℕ, ◌+◌, ◌≤◌, Bool, true, false, cond, List, [], length, Some, Result, Ok, Err, refl, ap, subst, ◌∙◌, arith}
 use Rattle.std.specs.Prelude.{IsFalse, IsSome, unwrap_or}
 use Rattle.film_project.specs.Facts.{ProjectFacts}
 use Rattle.make_engine.proofs.Outcomes.{not_some}
@@ -10,10 +10,10 @@ use Rattle.make_engine.specs.declared.outcome.MakeEnd.TheVariants as make_end
 use Rattle.make_engine.specs.declared.outcome.Report.{Report}
 use Rattle.mast_world.specs.Count.{HasRisen}
 use Rattle.dcp_commands.specs.Inputs.{planned}
-use Rattle.dcp_commands.specs.Make.{Answers, IsEarly, checked, frames_of, input_size, make_status, package_of, status_of, with_plan}
+use Rattle.dcp_commands.specs.Make.{IsEarly, checked, frames_of, input_size, make_status, package_of, with_plan}
 use Rattle.dcp_commands.specs.Words.{MakeWords, make_words}
 use Rattle.dcp_commands.specs.declared.status.Status.{Status}
-use Rattle.dcp_commands.specs.declared.status.Status.TheVariants.{Done, InputMissing, BadFrame, Unbuilt}
+use Rattle.dcp_commands.specs.declared.status.Status.TheVariants.{InputMissing, BadFrame, Unbuilt}
 
 -- words and inputs that give a project leave what isn't built
 pub checked_by : (files : Files) (words : List (List ℕ)) (asked : MakeWords) (project : ProjectFacts) → make_words words ≡ Some asked → planned files asked.project ≡ Ok project → checked files words ≡ with_plan (Ok project)
@@ -79,10 +79,3 @@ built_unless false made end was other ends = absurd (other (cc (was, ends refl))
 
 pub risen_later : (before between now : ℕ) → before ≤ between → HasRisen between now → HasRisen before now
 risen_later before between now kept risen = omega (arith, kept, risen)
-
--- what is answered as `Done` was made
-pub done_is : {T : Type 0} (outcome : Result T Status) (result : Status) → Answers result (status_of outcome) → (outcome ≡ Err Done → ⊥) → result ≡ Done → (made : T) × (outcome ≡ Ok made)
-done_is (Ok made) result answer other done = (made, refl)
-done_is (Err status) result (inl same) other done = absurd (other (ap Err (sym same ∙ done)))
-done_is (Err status) result (inr (inl sink)) other done = absurd (cc)
-done_is (Err status) result (inr (inr memory)) other done = absurd (cc)

@@ -1,22 +1,17 @@
 -- How planning ends, step by step.
-use Rattle.std.proofs.Common.{◌≡◌, ℕ, zero, suc, ◌+◌, ◌-◌, ◌<◌, Bool, true, false, ◌||◌, ◌==◌, List, [], ◌∷◌, length, map, Some, None, Ok, Err, refl, ap, sym, ◌∙◌, add-one, arith}
-use Rattle.std.proofs.lemmas.Bool.Decides.{nat_tests}
+use Rattle.std.proofs.Common.{◌≡◌, ℕ, zero, suc, ◌+◌, ◌-◌, ◌<◌, Bool, true, false, ◌||◌, ◌==◌, List, [], ◌∷◌, length, map, Some, None, refl, ap, sym, ◌∙◌, add-one, arith}
 use Rattle.std.specs.List.{list_any}
 use Rattle.std.specs.Option.{option_or}
-use Rattle.film_plan.specs.Needs.{Short, first_short}
 use Rattle.film_plan.specs.declared.refusal.PlanRefusal.{PlanRefusal}
 use Rattle.film_plan.specs.declared.refusal.PlanRefusal.TheVariants as plan
-use Rattle.film_project.specs.Accepts.{accepts}
 use Rattle.film_project.specs.Facts.{ProjectFacts}
 use Rattle.film_project.specs.Plain.{picture_facts, project_facts, sound_facts}
 use Rattle.film_project.specs.declared.clip.PictureClip.{PictureClip}
 use Rattle.film_project.specs.declared.clip.SoundClip.{SoundClip}
 use Rattle.film_project.specs.declared.project.Project.{Project}
-use Rattle.film_project.specs.declared.refusal.ProjectRefusal.{ProjectRefusal}
-use Rattle.film_project.specs.declared.refusal.ProjectRefusal.TheVariants.{FileTooLong}
 use Rattle.make_engine.specs.Package.{Files}
-use Rattle.dcp_commands.specs.Inputs.{is_named, missing_at, missing_before, missing_input, planned, short_end, sizes_of}
-use Rattle.dcp_commands.specs.declared.inputs.PlanEnd.TheVariants.{InputMissing, InputShort, ProjectRefused}
+use Rattle.dcp_commands.specs.Inputs.{is_named, missing_at, missing_before, missing_input, short_end}
+use Rattle.dcp_commands.specs.declared.inputs.PlanEnd.TheVariants.{InputShort}
 
 both : (t a b : Bool) → a ≡ b → (t || a) ≡ (t || b)
 both t a b is = ap (λ v. t || v) is
@@ -25,27 +20,6 @@ both t a b is = ap (λ v. t || v) is
 pub list_any_mapped : {X Y : Type 0} (g : X → Y) (p : Y → Bool) (xs : List X) → list_any (λ x. p (g x)) xs ≡ list_any p (map g xs)
 list_any_mapped g p [] = refl
 list_any_mapped g p (x ∷ xs) = both (p (g x)) (list_any (λ y. p (g y)) xs) (list_any p (map g xs)) (list_any_mapped g p xs)
-
-pub planned_missing : (files : Files) (name : List ℕ) → files name ≡ None → planned files name ≡ Err (InputMissing name)
-planned_missing files name gone = rw gone refl
-
-too_long : (text : List ℕ) → 8388608 < length text → accepts text ≡ Err (FileTooLong (length text))
-too_long text long = grind (arith, nat_tests)
-
-pub planned_too_long : (files : Files) (name text : List ℕ) → files name ≡ Some text → 8388608 < length text → planned files name ≡ Err (ProjectRefused (FileTooLong (length text)))
-planned_too_long files name text found long = rw (found, too_long text long) refl
-
-pub planned_refused : (files : Files) (name text : List ℕ) (refusal : ProjectRefusal) → files name ≡ Some text → accepts text ≡ Err refusal → planned files name ≡ Err (ProjectRefused refusal)
-planned_refused files name text refusal found refused = rw (found, refused) refl
-
-pub planned_input : (files : Files) (name text missing : List ℕ) (project : ProjectFacts) → files name ≡ Some text → accepts text ≡ Ok project → missing_input files project ≡ Some missing → planned files name ≡ Err (InputMissing missing)
-planned_input files name text missing project found told gone = rw (found, told, gone) refl
-
-pub planned_short : (files : Files) (name text : List ℕ) (project : ProjectFacts) (short : Short) → files name ≡ Some text → accepts text ≡ Ok project → missing_input files project ≡ None → first_short project (sizes_of files project) ≡ Some short → planned files name ≡ Err (InputShort short.asset short.size short.need)
-planned_short files name text project short found told there is = rw (found, told, there, is) refl
-
-pub planned_ok : (files : Files) (name text : List ℕ) (project : ProjectFacts) → files name ≡ Some text → accepts text ≡ Ok project → missing_input files project ≡ None → first_short project (sizes_of files project) ≡ None → planned files name ≡ Ok project
-planned_ok files name text project found told there enough = rw (found, told, there, enough) refl
 
 -- one asset more
 pub missing_more : (files : Files) (project : ProjectFacts) (n : ℕ) → missing_before files project n ≡ None → missing_before files project (n + 1) ≡ missing_at files project n

@@ -32,11 +32,17 @@ status_text done Unbuilt = codes "unbuilt"
 abbrev pub line_of : List ℕ → Status → List ℕ
 line_of done status = status_text done status ++ 10 ∷ []
 
+-- the line of a status; that of `Done` has such a text
+pub record IsLine (IsText : List ℕ → Type 0) (status : Status) (line : List ℕ) : Type 0 where
+  pub done : List ℕ
+  pub text : status ≡ Done → IsText done
+  pub is : line ≡ line_of done status
+
 -- what was printed under a status: its line; a front of some status' line where the sink failed; the line or nothing for want of memory
-abbrev pub IsPrinted : List ℕ → Status → List ℕ → List ℕ → Type 0
-IsPrinted done SinkFault before now = (status : Status) × (n : ℕ) × (now ≡ before ++ take n (line_of done status))
-IsPrinted done NoMemory before now = (now ≡ before) ⊎ (now ≡ before ++ line_of done NoMemory)
-IsPrinted done status before now = now ≡ before ++ line_of done status
+abbrev pub IsPrinted : (List ℕ → Type 0) → Status → List ℕ → List ℕ → Type 0
+IsPrinted IsText SinkFault before now = (status : Status) × (line : List ℕ) × (n : ℕ) × IsLine IsText status line × (now ≡ before ++ take n line)
+IsPrinted IsText NoMemory before now = (now ≡ before) ⊎ (now ≡ before ++ line_of [] NoMemory)
+IsPrinted IsText status before now = (line : List ℕ) × IsLine IsText status line × (now ≡ before ++ line)
 
 -- the exit status of a program
 abbrev pub exit_code : Status → ℕ

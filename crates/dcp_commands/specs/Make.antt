@@ -8,6 +8,7 @@ use Rattle.make_engine.specs.declared.outcome.BadWhy.{BadWhy}
 use Rattle.make_engine.specs.declared.outcome.MakeEnd.{MakeEnd}
 use Rattle.make_engine.specs.declared.outcome.MakeEnd.TheVariants as make_end
 use Rattle.dcp_commands.specs.Inputs.{planned}
+use Rattle.dcp_commands.specs.Line.{done_text}
 use Rattle.dcp_commands.specs.Words.{MakeWords, make_words}
 use Rattle.dcp_commands.specs.declared.inputs.PlanEnd.{PlanEnd}
 use Rattle.dcp_commands.specs.declared.inputs.PlanEnd.TheVariants as plan_end
@@ -58,6 +59,12 @@ package_of files words = option_and_then (picture_of files) (project_of files wo
 abbrev pub frames_of : Files → List (List ℕ) → Option ℕ
 frames_of files words = option_map (λ project. project.frames) (project_of files words)
 
+-- the text of `Done`: that of the project's frames, of which none was kept
+pub record IsMadeText (tells : Type 0) (files : Files) (words : List (List ℕ)) (text : List ℕ) : Type 0 where
+  pub frames : ℕ
+  pub is : text ≡ done_text frames 0
+  pub told : tells → frames_of files words ≡ Some frames
+
 -- how many bytes of input there are: the project file and those of the frames
 abbrev pub input_size : Files → List (List ℕ) → ℕ
 input_size files words =
@@ -88,11 +95,7 @@ pub record IsBadInProject (tells : Type 0) (files : Files) (words : List (List �
 abbrev pub Answers : Status → Status → Type 0
 Answers result status = (result ≡ status) ⊎ (result ≡ SinkFault) ⊎ (result ≡ NoMemory)
 
--- the status of an outcome, and what `Done` prints of it
+-- the status of an outcome
 abbrev pub status_of : {T : Type 0} → Result T Status → Status
 status_of (Ok made) = Done
 status_of (Err status) = status
-
-abbrev pub done_of : Result (List ℕ) Status → List ℕ
-done_of (Ok text) = text
-done_of (Err status) = []

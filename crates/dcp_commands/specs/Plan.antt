@@ -1,5 +1,5 @@
 -- What `plan` prints.
-use Rattle.std.specs.Prelude.{ℕ, codes, List, ◌++◌, length, filter, Option, Some, None, Result, Ok, Err}
+use Rattle.std.specs.Prelude.{◌≡◌, ℕ, codes, List, ◌++◌, length, filter, Option, Some, None, Result, Ok, Err}
 use Rattle.std.specs.Fmt.{decimal}
 use Rattle.film_plan.specs.Plan.{limits_of}
 use Rattle.film_project.specs.Facts.{ProjectFacts}
@@ -44,6 +44,12 @@ checked_plan files words = with_name files (plan_words words)
 abbrev pub status_in : Result ProjectFacts Status → Status
 status_in (Ok project) = Done
 status_in (Err status) = status
+
+-- the text of `Done`: the plan of the project that the words name
+pub record IsPlanText (tells : Type 0) (files : Files) (words : List (List ℕ)) (text : List ℕ) : Type 0 where
+  pub project : ProjectFacts
+  pub is : text ≡ plan_text project
+  pub told : tells → checked_plan files words ≡ Ok project
 
 -- how `plan` may end without a plan
 abbrev pub IsPlanEnd : Status → Type 0

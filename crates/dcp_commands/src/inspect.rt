@@ -1,9 +1,8 @@
 ghost use Rattle.std.specs.Prelude.{◌≡◌, ◌≢◌, ◌⊎◌, ◌≤◌, ◌<◌, ℕ, List, Some, None, Ok, Err, IfOk, OnOk, IsOk, map, string_bytes};
-ghost use Rattle.film_project.specs.Facts.{ProjectFacts};
 ghost use Rattle.mast_world.specs.Count.{HasRisen};
 ghost use Rattle.dcp_commands.specs.Line.{IsPrinted};
 ghost use Rattle.dcp_commands.specs.Make.{Answers};
-ghost use Rattle.dcp_commands.specs.Plan.{IsPlanEnd, checked_plan, plan_text, status_in};
+ghost use Rattle.dcp_commands.specs.Plan.{IsPlanEnd, IsPlanText, checked_plan, status_in};
 ghost use Rattle.dcp_commands.specs.Words.{plan_words};
 
 use crate::inputs::read_plan;
@@ -16,7 +15,7 @@ use std::alloc::Global;
 
 /// What `plan` prints of the project that the words name.
 fn show_plan<S: Source>(alloc: Global, words: &[String], source: &mut S) -> Result<Bytes, Status>
-    ensures text { IfOk result (λ text. (project : ProjectFacts) × (text ≡ plan_text project) × (S.tells → checked_plan (S.file source.old) (map string_bytes words.now) ≡ Ok project)) }
+    ensures text { IfOk result (IsPlanText S.tells (S.file source.old) (map string_bytes words.now)) }
     ensures ended { (status : Status) → result ≡ Err status → S.tells → status ≢ Status.SourceFault → status ≢ Status.NoMemory → checked_plan (S.file source.old) (map string_bytes words.now) ≡ Err status }
     ensures usage { result ≡ Err Status.Usage → plan_words (map string_bytes words.now) ≡ None }
     ensures refused { plan_words (map string_bytes words.now) ≡ None → result ≡ Err Status.Usage }
@@ -53,7 +52,7 @@ pub fn run<S: Source, O: Sink>(
     ensures no_other { (result ≡ Status.Done) ⊎ (result ≡ Status.SinkFault) ⊎ IsPlanEnd result }
 
     // What is printed: the plan's lines, or the status' line.
-    ensures printed { O.tells → (done : List ℕ) × (result ≡ Status.Done → (project : ProjectFacts) × (done ≡ plan_text project) × (S.tells → checked_plan (S.file source.old) (map string_bytes words.now) ≡ Ok project)) × IsPrinted done result (O.written out.old) (O.written out.new) }
+    ensures printed { O.tells → IsPrinted (IsPlanText S.tells (S.file source.old) (map string_bytes words.now)) result (O.written out.old) (O.written out.new) }
 
     // Where there is a plan and no device fails, nothing but want of memory keeps it from being printed.
     ensures complete { S.tells → IsOk (checked_plan (S.file source.old) (map string_bytes words.now)) → ¬ HasRisen (S.faults source.old) (S.faults source.new) → ¬ HasRisen (O.faults out.old) (O.faults out.new) → (result ≡ Status.Done) ⊎ (result ≡ Status.NoMemory) }

@@ -1,9 +1,9 @@
-ghost use Rattle.std.specs.Prelude.{◌≡◌, ◌≢◌, ◌++◌, Err, codes, string_bytes, IfOk};
+ghost use Rattle.std.specs.Prelude.{◌≡◌, ◌≢◌, ◌++◌, Ok, Err, codes, string_bytes, IfOk};
 ghost use Rattle.std.specs.Fmt.{decimal};
 ghost use Rattle.make_engine.specs.declared.outcome.BadWhy.TheVariants.{Limit};
 ghost use Rattle.mast_world.specs.Count.{HasRisen};
 ghost use Rattle.dcp_commands.specs.Line.{done_text, why_text, status_text, line_of, IsPrinted};
-ghost use Rattle.dcp_commands.specs.Make.{Answers, done_of, status_of};
+ghost use Rattle.dcp_commands.specs.Make.{Answers, status_of};
 
 use crate::status::Status;
 use film_project::refusal_text;
@@ -87,9 +87,10 @@ fn line_of(alloc: Global, status: &Status, done: &[u8]) -> Result<Vec<u8>, NoMem
 /// Prints how a command ended: the text that was made, or the line of the status that kept it from
 /// being made. It answers that status, or why it couldn't be printed.
 pub(crate) fn print<O: Sink>(alloc: Global, outcome: Result<Bytes, Status>, out: &mut O) -> Status
-    requires { outcome ≢ Err Status.SinkFault }
+    requires not_done { outcome ≢ Err Status.Done }
+    requires not_sink_fault { outcome ≢ Err Status.SinkFault }
     ensures answer { Answers result (status_of outcome) }
-    ensures printed { O.tells → IsPrinted (done_of outcome) result (O.written out.old) (O.written out.new) }
+    ensures printed { O.tells → IsPrinted (λ text. outcome ≡ Ok text) result (O.written out.old) (O.written out.new) }
     ensures sink_fault { result ≡ Status.SinkFault → HasRisen (O.faults out.old) (O.faults out.new) }
 {
     let (status, done) = match outcome {
@@ -104,7 +105,7 @@ pub(crate) fn print<O: Sink>(alloc: Global, outcome: Result<Bytes, Status>, out:
 fn print_line<O: Sink>(alloc: Global, status: Status, done: &[u8], out: &mut O) -> Status
     requires { status ≢ Status.SinkFault }
     ensures answer { Answers result status }
-    ensures printed { O.tells → IsPrinted done.now result (O.written out.old) (O.written out.new) }
+    ensures printed { O.tells → IsPrinted (λ text. (status ≡ Status.Done) × (text ≡ done.now)) result (O.written out.old) (O.written out.new) }
     ensures sink_fault { result ≡ Status.SinkFault → HasRisen (O.faults out.old) (O.faults out.new) }
 {
     let Ok(line) = line_of(alloc, &status, done) else {

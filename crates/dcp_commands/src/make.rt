@@ -4,8 +4,8 @@ ghost use Rattle.make_engine.specs.declared.outcome.BadWhy.{BadWhy};
 ghost use Rattle.mast_world.specs.Count.{HasRisen, counted};
 ghost use Rattle.mast_world.specs.declared.volume.FileId.{FileId};
 ghost use Rattle.mast_world.specs.declared.volume.FileId.TheVariants.{Picture};
-ghost use Rattle.dcp_commands.specs.Line.{IsPrinted, done_text};
-ghost use Rattle.dcp_commands.specs.Make.{Answers, IsBadInProject, IsEarly, IsMissingInProject, checked, frames_of, input_size, package_of, status_of};
+ghost use Rattle.dcp_commands.specs.Line.{IsPrinted};
+ghost use Rattle.dcp_commands.specs.Make.{Answers, IsBadInProject, IsEarly, IsMadeText, IsMissingInProject, checked, input_size, package_of, status_of};
 ghost use Rattle.dcp_commands.specs.Words.{make_words};
 
 use crate::inputs::read_plan;
@@ -31,7 +31,7 @@ fn make_package<S: Source, V: Volume>(
     volume: &mut V,
 ) -> Result<Bytes, Status>
     ensures package { S.tells → V.tells → OnOk result (package_of (S.file source.old) (map string_bytes words.now) ≡ Some (V.reads volume.new (Picture 1))) }
-    ensures text { IfOk result (λ text. (frames : ℕ) × (text ≡ done_text frames 0) × (S.tells → frames_of (S.file source.old) (map string_bytes words.now) ≡ Some frames)) }
+    ensures text { IfOk result (IsMadeText S.tells (S.file source.old) (map string_bytes words.now)) }
     ensures taken { S.tells → OnOk result (S.taken source.new ≡ counted (S.taken source.old) (input_size (S.file source.old) (map string_bytes words.now))) }
     ensures put { V.tells → OnOk result (V.put volume.new (Picture 1) ≡ counted (V.put volume.old (Picture 1)) (length (V.reads volume.new (Picture 1)))) }
     ensures other_put { (file : FileId) → file ≢ Picture 1 → V.put volume.new file ≡ V.put volume.old file }
@@ -96,7 +96,7 @@ pub fn run_make<S: Source, V: Volume, O: Sink>(
     ensures sink_fault { result ≡ Status.SinkFault → HasRisen (O.faults out.old) (O.faults out.new) }
 
     // The line that is printed; that of `Done` has the project's number of frames.
-    ensures printed { O.tells → (done : List ℕ) × (result ≡ Status.Done → (frames : ℕ) × (done ≡ done_text frames 0) × (S.tells → frames_of (S.file source.old) (map string_bytes words.now) ≡ Some frames)) × IsPrinted done result (O.written out.old) (O.written out.new) }
+    ensures printed { O.tells → IsPrinted (IsMadeText S.tells (S.file source.old) (map string_bytes words.now)) result (O.written out.old) (O.written out.new) }
 
     // Where there is a package and no device fails, nothing but want of memory keeps it from being made.
     ensures complete { S.tells → IsSome (package_of (S.file source.old) (map string_bytes words.now)) → ¬ HasRisen (S.faults source.old) (S.faults source.new) → ¬ HasRisen (V.faults volume.old) (V.faults volume.new) → ¬ HasRisen (O.faults out.old) (O.faults out.new) → (result ≡ Status.Done) ⊎ (result ≡ Status.NoMemory) }

@@ -3,4 +3,4 @@ use Rattle.film_project.specs.Plain.{project_facts}
 use Rattle.dcp_commands.proofs.inspect.show_plan.Goals as goal
 
 pub returns-clause-text : goal.returns-clause-text
-returns-clause-text g c = (project_facts c.in_ok-plan.plan.project, search rules, λ tells. search rules)
+returns-clause-text g c = record { project = project_facts c.in_ok-plan.plan.project; is = search rules; told = λ tells. search rules }

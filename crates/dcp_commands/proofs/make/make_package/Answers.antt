@@ -106,11 +106,11 @@ returns-clause-text g c =
     let words = map string_bytes c.args.words.now in
     let project = project_facts c.in_ok-plan.plan.project in
     let asked : MakeWords = record { project = c.in-Some.asked.project.now; out = c.in-Some.asked.out.now } in
-    let on = built (is_built project) c.make_alone.result c.in_ok-report.report c.in_ok-report.was c.make_alone.ensures.not_built in (
-      project.frames,
-      c.in_ok-done_text.ensures ∙ ap (λ (report : Report). done_text report.frames report.kept) c.in_ok-report.ensures.report,
-      λ tells. frames_are files words project (checked_built files words asked project (sym c.in-Some.ensures) (ap (planned files) (sym c.as_bytes.ensures.value) ∙ c.in_ok-plan.ensures.planned tells) on),
-    )
+    let on = built (is_built project) c.make_alone.result c.in_ok-report.report c.in_ok-report.was c.make_alone.ensures.not_built in record {
+      frames = project.frames;
+      is = c.in_ok-done_text.ensures ∙ ap (λ (report : Report). done_text report.frames report.kept) c.in_ok-report.ensures.report;
+      told = λ tells. frames_are files words project (checked_built files words asked project (sym c.in-Some.ensures) (ap (planned files) (sym c.as_bytes.ensures.value) ∙ c.in_ok-plan.ensures.planned tells) on);
+    }
 
 pub returns-clause-taken : goal.returns-clause-taken
 returns-clause-taken g c = λ tells.
