@@ -1,5 +1,5 @@
 -- Steps of walks over lists and places.
-use Rattle.std.proofs.Common.{String, Global, string_bytes, ◌++◌, append_assoc, append-nil, ◌≡◌, ℕ, suc, ◌+◌, ◌-◌, ◌<◌, List, [], ◌∷◌, Bool, true, false, Option, Some, None, refl, ap, sym, ◌∙◌, arith, map, length, drop, get_or}
+use Rattle.std.proofs.Common.{String, Global, string_bytes, ◌++◌, append_assoc, ◌≡◌, ℕ, suc, ◌+◌, ◌-◌, ◌<◌, List, [], ◌∷◌, Bool, true, false, Option, Some, None, refl, ap, sym, ◌∙◌, arith, map, length, drop, get_or}
 use Rattle.film_project.specs.Texts.{first_place}
 use Rattle.std.specs.Option.{option_or}
 use Rattle.std.proofs.lemmas.List.{map-append, drop_more}
@@ -53,10 +53,6 @@ pub first_of-next : {X : Type 0} (fault : ℕ → X → Option ProjectRefusal) (
     → xs ≡ x ∷ rest → fault i x ≡ None → first_of fault i xs ≡ first_of fault (i + 1) rest
 first_of-next fault i xs x rest here e = rw (here, e)
 
-pub first_of-here : {X : Type 0} (fault : ℕ → X → Option ProjectRefusal) (i : ℕ) (xs : List X) (x : X) (rest : List X) (r : ProjectRefusal)
-    → xs ≡ x ∷ rest → fault i x ≡ Some r → first_of fault i xs ≡ Some r
-first_of-here fault i xs x rest r here e = rw (here, e)
-
 -- ---- what a loop has gathered, and what it still has to
 
 pub gather-next : {A B X : Type 0} (f : A → B) (g : X → B) (done : List A) (a : A) (xs : List X) (x : X) (rest : List X) (all : List B)
@@ -64,10 +60,6 @@ pub gather-next : {A B X : Type 0} (f : A → B) (g : X → B) (done : List A) (
 gather-next f g done a xs x rest all here same e =
     ap (λ ys. ys ++ map g rest) (map-append f done (a ∷ [])) ∙ append_assoc (map f done) (f a ∷ []) (map g rest)
     ∙ ap (λ b. map f done ++ b ∷ map g rest) same ∙ ap (λ ys. map f done ++ map g ys) (sym here) ∙ e
-
-pub gather-end : {A B X : Type 0} (f : A → B) (g : X → B) (done : List A) (xs : List X) (all : List B)
-    → xs ≡ [] → map f done ++ map g xs ≡ all → map f done ≡ all
-gather-end f g done xs all none e = sym (append-nil (map f done)) ∙ ap (λ ys. map f done ++ map g ys) (sym none) ∙ e
 
 -- ---- one fault after another
 
@@ -87,9 +79,6 @@ members_fault-append place d (m ∷ ms) ns = rw (members_fault-append place d ms
 or_none : (f : Option ProjectRefusal) → option_or f None ≡ f
 or_none None = refl
 or_none (Some r) = refl
-
-pub one_fault : (place : Place) (d : Data) (m : Member) (h : Option ProjectRefusal) → member_fault place d m ≡ h → members_fault place d (m ∷ []) ≡ h
-one_fault place d m h e = or_none (member_fault place d m) ∙ e
 
 pub members_fault-sooner : (place : Place) (d : Data) (ms ns : List Member) (r : ProjectRefusal)
     → members_fault place d ms ≡ Some r → members_fault place d (ms ++ ns) ≡ Some r

@@ -23,12 +23,6 @@ beq-true true false h = cc
 beq-true false true h = cc
 beq-true false false h = refl
 
-beq-false : (x y : Bool) → beq x y ≡ false → x ≡ not y
-beq-false true true h = cc
-beq-false true false h = refl
-beq-false false true h = refl
-beq-false false false h = cc
-
 lower-by : (m z : Bool) → beq z m ≡ cond m z (not z)
 lower-by true true = refl
 lower-by true false = refl

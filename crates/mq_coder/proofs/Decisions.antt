@@ -106,12 +106,6 @@ pub qe-small : (s : State) → qe_of s ≤ 0x5601
 unfolding qe_of
 qe-small s = (rows-good s.index).small
 
-pub row-mps : (i : ℕ) → (row_at i).nmps < 47
-row-mps i = (rows-good i).next_mps
-
-pub row-lps : (i : ℕ) → (row_at i).nlps < 47
-row-lps i = (rows-good i).next_lps
-
 -- ---- the part of the interval that a decision keeps
 
 pub part-cases :

@@ -269,11 +269,6 @@ power-byte ct low high = elim (cases_eq ct 7) [
   | inr p ↦ (let e : ct ≡ 8 = omega arith in inr (ap (λ n. 2 ^ n) e))
 ]
 
-out-value :
-    (before : List ℕ) (a c w : ℕ) (r : Registers) (o : Out before a c w r) →
-    num before * 2 ^ 27 + c ≡ num o.bs * 2 ^ 27 + o.b * o.S + r.c
-out-value before a c w r o = o.same
-
 -- the registers b with a value to be flushed, of width 1
 pub closed-by :
     (b : Registers) → Sound 1 b.bytes b.c b.ct → 0 < b.ct → b.ct ≤ 12 → (b.c + 1) % 0x8000 ≡ 0 →
@@ -313,10 +308,6 @@ closed-by b s pos few ones =
       ahead-shift e F (256 * 2 ^ r1.ct) 5 (27 - b.ct) 1 b.bytes b.c b.ct (omega (arith, few)) at0,
       o2.sound.clean,
     )
-
-bits-kept : (r : Registers) → ((bits_set r).bytes ≡ r.bytes) × ((bits_set r).ct ≡ r.ct)
-unfolding bits_set
-bits-kept r = (refl, refl)
 
 pub closed : (r : Registers) → Ready r → Closed r (shifted_out (shifted_out (bits_set r))).bytes
 unfolding bits_set

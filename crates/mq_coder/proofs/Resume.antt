@@ -1,5 +1,5 @@
 -- An ending, and the codeword that is made from it.
-use Rattle.std.proofs.Common.{subst, ◌≡◌, ℕ, ◌+◌, ◌-◌, ◌*◌, ◌/◌, ◌%◌, ◌^◌, ◌<◌, ◌≤◌, ◌≢◌, List, [], ◌∷◌, ◌++◌, reverse, length, take, refl, sym, ap, ◌∙◌, arith, length-take, append_assoc, inl, inr, zero, suc}
+use Rattle.std.proofs.Common.{subst, ◌≡◌, ℕ, ◌+◌, ◌-◌, ◌*◌, ◌/◌, ◌%◌, ◌^◌, ◌<◌, ◌≤◌, ◌≢◌, List, [], ◌∷◌, ◌++◌, reverse, length, take, refl, sym, ap, ◌∙◌, arith, append_assoc, inl, inr, zero, suc}
 use Rattle.std.specs.Prelude.{bit_and}
 use Rattle.std.proofs.lemmas.List.{reverse-reverse, length-reverse, reverse-append}
 use Rattle.std.proofs.lemmas.Nat.{and_mask}
@@ -36,13 +36,6 @@ mark-of (b ∷ l) p = refl
 pub mark-reverse : (bytes : List ℕ) → length bytes ≢ 0 → 0x1000000 + last_byte (reverse bytes) * 0x10000 ≡ mark_of (reverse bytes)
 mark-reverse bytes p = mark-of (reverse bytes) (omega (arith, length-reverse bytes))
 
-pub mark-empty : (bytes : List ℕ) → length bytes ≡ 0 → 0 ≡ mark_of (reverse bytes)
-mark-empty bytes p = none (reverse bytes) (length-reverse bytes ∙ p)
-  where
-    none : (l : List ℕ) → length l ≡ 0 → 0 ≡ mark_of l
-    none [] q = refl
-    none (b ∷ l) q = absurd (omega arith)
-
 pub ready-coded : (ds : List Decision) → Ready (coded ds).registers
 unfolding coded
 ready-coded ds = ready-coded_from start ds ready-start
@@ -66,10 +59,6 @@ holds ds bytes en k =
       begins = k.begins;
       ready = ready-coded ds;
     }
-
-pub kept-fits : (r : Registers) (bytes : List ℕ) (en : Ending) → Holds r bytes en → en.kept ≤ length bytes
-kept-fits r bytes en h =
-    omega (arith, ap length h.begins, length-take en.kept bytes, length-reverse (behind r.bytes), h.kept)
 
 mark-small : (l : List ℕ) → Clean l → mark_of l % 0x10000 ≡ 0
 mark-small [] k = refl
@@ -282,7 +271,3 @@ coded_from-push : (e : Encoder) (ds : List Decision) (d : Decision) → coded_fr
 unfolding coded_from
 coded_from-push e [] d = refl
 coded_from-push e (x ∷ ds) d = coded_from-push (coded_one e x) ds d
-
-pub coded-push : (ds : List Decision) (d : Decision) → coded (ds ++ d ∷ []) ≡ coded_one (coded ds) d
-unfolding coded
-coded-push ds d = coded_from-push start ds d
