@@ -87,9 +87,11 @@ fn source_fault(_fault: Failed) -> PlanEnd
 
 /// The size of a file, which has to be there.
 fn find_size<S: Source>(alloc: Global, source: &mut S, name: &[u8]) -> Result<u64, PlanEnd>
-    ensures size { S.tells → IfOk result (λ size. (bytes : List ℕ) × (S.file source.old name.now ≡ Some bytes) × (size ≡ length bytes)) }
+    ensures size { S.tells
+        → IfOk result (λ size. (bytes : List ℕ) × (S.file source.old name.now ≡ Some bytes) × (size ≡ length bytes)) }
     ensures missing { (n : List ℕ) → result ≡ Err (PlanEnd.InputMissing n) → n ≡ name.now }
-    ensures missing_count { (n : List ℕ) → result ≡ Err (PlanEnd.InputMissing n) → HasRisen (S.absent source.old) (S.absent source.new) }
+    ensures missing_count { (n : List ℕ) → result ≡ Err (PlanEnd.InputMissing n)
+        → HasRisen (S.absent source.old) (S.absent source.new) }
     ensures missing_told { (n : List ℕ) → result ≡ Err (PlanEnd.InputMissing n) → S.tells → S.file source.old name.now ≡ None }
     ensures source_fault { result ≡ Err PlanEnd.SourceFault → HasRisen (S.faults source.old) (S.faults source.new) }
     ensures no_refusal { (refusal : ProjectRefusal) → result ≢ Err (PlanEnd.ProjectRefused refusal) }
@@ -113,7 +115,8 @@ fn read_text<S: Source>(alloc: Global, source: &mut S, name: &[u8]) -> Result<Ve
     ensures read { S.tells → IfOk result (λ text. S.file source.old name.now ≡ Some text.items) }
     ensures taken { IfOk result (λ text. S.taken source.new ≡ counted (S.taken source.old) (length text.items)) }
     ensures ended { (end : PlanEnd) → result ≡ Err end → S.tells → Ends end (planned (S.file source.old) name.now) }
-    ensures missing_count { (n : List ℕ) → result ≡ Err (PlanEnd.InputMissing n) → HasRisen (S.absent source.old) (S.absent source.new) }
+    ensures missing_count { (n : List ℕ) → result ≡ Err (PlanEnd.InputMissing n)
+        → HasRisen (S.absent source.old) (S.absent source.new) }
     ensures source_fault { result ≡ Err PlanEnd.SourceFault → HasRisen (S.faults source.old) (S.faults source.new) }
     ensures no_short { (asset : List ℕ) (size need : ℕ) → result ≢ Err (PlanEnd.InputShort asset size need) }
 
@@ -186,8 +189,10 @@ fn size_of<S: Source>(
     requires { place < length project.now.assets }
     ensures there { S.tells → OnOk result (missing_at (S.file source.old) (project_facts project.now) place ≡ None) }
     ensures size { S.tells → IfOk result (λ size. size ≡ size_at (S.file source.old) (project_facts project.now) place) }
-    ensures missing_count { (n : List ℕ) → result ≡ Err (PlanEnd.InputMissing n) → HasRisen (S.absent source.old) (S.absent source.new) }
-    ensures missing_told { (n : List ℕ) → result ≡ Err (PlanEnd.InputMissing n) → S.tells → missing_at (S.file source.old) (project_facts project.now) place ≡ Some n }
+    ensures missing_count { (n : List ℕ) → result ≡ Err (PlanEnd.InputMissing n)
+        → HasRisen (S.absent source.old) (S.absent source.new) }
+    ensures missing_told { (n : List ℕ) → result ≡ Err (PlanEnd.InputMissing n) → S.tells
+        → missing_at (S.file source.old) (project_facts project.now) place ≡ Some n }
     ensures source_fault { result ≡ Err PlanEnd.SourceFault → HasRisen (S.faults source.old) (S.faults source.new) }
     ensures no_refusal { (refusal : ProjectRefusal) → result ≢ Err (PlanEnd.ProjectRefused refusal) }
     ensures no_short { (asset : List ℕ) (size need : ℕ) → result ≢ Err (PlanEnd.InputShort asset size need) }
@@ -212,8 +217,10 @@ fn find_sizes<S: Source>(
     ensures there { S.tells → OnOk result (missing_input (S.file source.old) (project_facts project.now) ≡ None) }
     ensures sizes { S.tells → IfOk result (λ sizes. sizes.items ≡ sizes_of (S.file source.old) (project_facts project.now)) }
     ensures count { IfOk result (λ sizes. length sizes.items ≡ length project.now.assets) }
-    ensures missing_count { (n : List ℕ) → result ≡ Err (PlanEnd.InputMissing n) → HasRisen (S.absent source.old) (S.absent source.new) }
-    ensures missing_told { (n : List ℕ) → result ≡ Err (PlanEnd.InputMissing n) → S.tells → missing_input (S.file source.old) (project_facts project.now) ≡ Some n }
+    ensures missing_count { (n : List ℕ) → result ≡ Err (PlanEnd.InputMissing n)
+        → HasRisen (S.absent source.old) (S.absent source.new) }
+    ensures missing_told { (n : List ℕ) → result ≡ Err (PlanEnd.InputMissing n) → S.tells
+        → missing_input (S.file source.old) (project_facts project.now) ≡ Some n }
     ensures source_fault { result ≡ Err PlanEnd.SourceFault → HasRisen (S.faults source.old) (S.faults source.new) }
     ensures no_refusal { (refusal : ProjectRefusal) → result ≢ Err (PlanEnd.ProjectRefused refusal) }
     ensures no_short { (asset : List ℕ) (size need : ℕ) → result ≢ Err (PlanEnd.InputShort asset size need) }
@@ -239,9 +246,11 @@ pub(crate) fn read_plan<S: Source>(
 ) -> Result<Plan, PlanEnd>
     ensures planned { S.tells → IfOk result (λ plan. planned (S.file source.old) name.now ≡ Ok (project_facts plan.project)) }
     ensures ended { (end : PlanEnd) → result ≡ Err end → S.tells → Ends end (planned (S.file source.old) name.now) }
-    ensures taken { S.tells → OnOk result (S.taken source.new ≡ counted (S.taken source.old) (length (unwrap_or (S.file source.old name.now) []))) }
+    ensures taken { S.tells
+        → OnOk result (S.taken source.new ≡ counted (S.taken source.old) (length (unwrap_or (S.file source.old name.now) []))) }
 
-    ensures missing_count { (n : List ℕ) → result ≡ Err (PlanEnd.InputMissing n) → HasRisen (S.absent source.old) (S.absent source.new) }
+    ensures missing_count { (n : List ℕ) → result ≡ Err (PlanEnd.InputMissing n)
+        → HasRisen (S.absent source.old) (S.absent source.new) }
     ensures short { (asset : List ℕ) (size need : ℕ) → result ≡ Err (PlanEnd.InputShort asset size need) → size < need }
     ensures source_fault { result ≡ Err PlanEnd.SourceFault → HasRisen (S.faults source.old) (S.faults source.new) }
 

@@ -16,10 +16,12 @@ use std::alloc::Global;
 /// What `plan` prints of the project that the words name.
 fn show_plan<S: Source>(alloc: Global, words: &[String], source: &mut S) -> Result<Bytes, Status>
     ensures text { IfOk result (IsPlanText S.tells (S.file source.old) (map string_bytes words.now)) }
-    ensures ended { (status : Status) → result ≡ Err status → S.tells → status ≢ Status.SourceFault → status ≢ Status.NoMemory → checked_plan (S.file source.old) (map string_bytes words.now) ≡ Err status }
+    ensures ended { (status : Status) → result ≡ Err status → S.tells → status ≢ Status.SourceFault
+        → status ≢ Status.NoMemory → checked_plan (S.file source.old) (map string_bytes words.now) ≡ Err status }
     ensures usage { result ≡ Err Status.Usage → plan_words (map string_bytes words.now) ≡ None }
     ensures refused { plan_words (map string_bytes words.now) ≡ None → result ≡ Err Status.Usage }
-    ensures missing_count { (name : List ℕ) → result ≡ Err (Status.InputMissing name) → HasRisen (S.absent source.old) (S.absent source.new) }
+    ensures missing_count { (name : List ℕ) → result ≡ Err (Status.InputMissing name)
+        → HasRisen (S.absent source.old) (S.absent source.new) }
     ensures short { (asset : List ℕ) (size need : ℕ) → result ≡ Err (Status.InputShort asset size need) → size < need }
     ensures source_fault { result ≡ Err Status.SourceFault → HasRisen (S.faults source.old) (S.faults source.new) }
     ensures of_plan { (status : Status) → result ≡ Err status → IsPlanEnd status }
@@ -40,10 +42,13 @@ pub fn run<S: Source, O: Sink>(
     out: &mut O,
 ) -> Status
     // Words, project and inputs decide: the first cause in their order, or the plan.
-    ensures told { S.tells → (result ≡ Status.SourceFault) ⊎ Answers result (status_in (checked_plan (S.file source.old) (map string_bytes words.now))) }
+    ensures told { S.tells
+        → (result ≡ Status.SourceFault)
+        ⊎ Answers result (status_in (checked_plan (S.file source.old) (map string_bytes words.now))) }
     ensures usage { result ≡ Status.Usage → plan_words (map string_bytes words.now) ≡ None }
     ensures refused { plan_words (map string_bytes words.now) ≡ None → Answers result Status.Usage }
-    ensures missing_count { (name : List ℕ) → result ≡ Status.InputMissing name → HasRisen (S.absent source.old) (S.absent source.new) }
+    ensures missing_count { (name : List ℕ) → result ≡ Status.InputMissing name
+        → HasRisen (S.absent source.old) (S.absent source.new) }
     ensures short { (asset : List ℕ) (size need : ℕ) → result ≡ Status.InputShort asset size need → size < need }
 
     // A fault is a device's.
@@ -52,10 +57,14 @@ pub fn run<S: Source, O: Sink>(
     ensures no_other { (result ≡ Status.Done) ⊎ (result ≡ Status.SinkFault) ⊎ IsPlanEnd result }
 
     // What is printed: the plan's lines, or the status' line.
-    ensures printed { O.tells → IsPrinted (IsPlanText S.tells (S.file source.old) (map string_bytes words.now)) result (O.written out.old) (O.written out.new) }
+    ensures printed { O.tells
+        → IsPrinted (IsPlanText S.tells (S.file source.old) (map string_bytes words.now))
+        result (O.written out.old) (O.written out.new) }
 
     // Where there is a plan and no device fails, nothing but want of memory keeps it from being printed.
-    ensures complete { S.tells → IsOk (checked_plan (S.file source.old) (map string_bytes words.now)) → ¬ HasRisen (S.faults source.old) (S.faults source.new) → ¬ HasRisen (O.faults out.old) (O.faults out.new) → (result ≡ Status.Done) ⊎ (result ≡ Status.NoMemory) }
+    ensures complete { S.tells → IsOk (checked_plan (S.file source.old) (map string_bytes words.now))
+        → ¬ HasRisen (S.faults source.old) (S.faults source.new) → ¬ HasRisen (O.faults out.old) (O.faults out.new)
+        → (result ≡ Status.Done) ⊎ (result ≡ Status.NoMemory) }
 {
     let outcome = show_plan(alloc, words, source);
     print(alloc, outcome, out)

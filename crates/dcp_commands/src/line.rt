@@ -105,7 +105,8 @@ pub(crate) fn print<O: Sink>(alloc: Global, outcome: Result<Bytes, Status>, out:
 fn print_line<O: Sink>(alloc: Global, status: Status, done: &[u8], out: &mut O) -> Status
     requires { status ≢ Status.SinkFault }
     ensures answer { Answers result status }
-    ensures printed { O.tells → IsPrinted (λ text. (status ≡ Status.Done) × (text ≡ done.now)) result (O.written out.old) (O.written out.new) }
+    ensures printed { O.tells
+        → IsPrinted (λ text. (status ≡ Status.Done) × (text ≡ done.now)) result (O.written out.old) (O.written out.new) }
     ensures sink_fault { result ≡ Status.SinkFault → HasRisen (O.faults out.old) (O.faults out.new) }
 {
     let Ok(line) = line_of(alloc, &status, done) else {

@@ -30,7 +30,8 @@ fn read_item<S: Source>(source: &mut S, name: &[u8], item: &mut [u8]) -> Result<
     requires short { length item.old < HEAD + 2 ^ 24 }
     requires there { S.tells → Reaches (S.file source.old name.now) (length item.old - HEAD) }
 
-    ensures made { S.tells → OnOk result (item.new ≡ item_head (length item.old - HEAD) ++ part_of (S.file source.old name.now) 0 (length item.old - HEAD)) }
+    ensures made { S.tells
+        → OnOk result (item.new ≡ item_head (length item.old - HEAD) ++ part_of (S.file source.old name.now) 0 (length item.old - HEAD)) }
     ensures taken { S.taken source.new ≡ counted_on_ok (S.taken source.old) (length item.old - HEAD) result }
 
     ensures same_files { S.file source.new ≡ S.file source.old }
@@ -55,14 +56,17 @@ fn read_codestream<S: Source>(
     requires room { length room.old ≡ ROOM }
     requires limit { HEAD + limit ≤ ROOM }
 
-    ensures read { S.tells → IfOk result (λ n. ReadsItem limit (S.file source.old name.now) (take n room.new) (S.taken source.old) (S.taken source.new)) }
+    ensures read { S.tells
+        → IfOk result (λ n. ReadsItem limit (S.file source.old name.now) (take n room.new) (S.taken source.old) (S.taken source.new)) }
     ensures size { IfOk result (λ n. n ≤ ROOM) }
     ensures same_files { S.file source.new ≡ S.file source.old }
 
     ensures missing_name { (n : List ℕ) → result ≡ Err (MakeEnd.InputMissing n) → n ≡ name.now }
-    ensures missing_count { (n : List ℕ) → result ≡ Err (MakeEnd.InputMissing n) → HasRisen (S.absent source.old) (S.absent source.new) }
+    ensures missing_count { (n : List ℕ) → result ≡ Err (MakeEnd.InputMissing n)
+        → HasRisen (S.absent source.old) (S.absent source.new) }
     ensures missing_told { (n : List ℕ) → result ≡ Err (MakeEnd.InputMissing n) → S.tells → S.file source.old name.now ≡ None }
-    ensures bad { (f : ℕ) (why : BadWhy) → result ≡ Err (MakeEnd.BadFrame f why) → IsTooLong S.tells limit (S.file source.old name.now) frame f why }
+    ensures bad { (f : ℕ) (why : BadWhy) → result ≡ Err (MakeEnd.BadFrame f why)
+        → IsTooLong S.tells limit (S.file source.old name.now) frame f why }
     ensures source_fault { result ≡ Err MakeEnd.SourceFault → HasRisen (S.faults source.old) (S.faults source.new) }
     ensures no_store_fault { result ≢ Err MakeEnd.StoreFault }
     ensures built { result ≢ Err MakeEnd.Unbuilt }
@@ -97,17 +101,24 @@ pub(crate) fn take_item<S: Source>(
     requires room { length room.old ≡ ROOM }
     requires frame { frame < plan.now.project.frames }
     requires held_size { held ≤ ROOM }
-    requires held { S.tells → 0 < frame → IsItemAt (S.file source.old) (project_facts plan.now.project) (frame - 1) (take held room.old) }
-    requires earlier { S.tells → IsSome (values_of (S.file source.old) (project_facts plan.now.project) (take frame (cells_of (project_facts plan.now.project)))) }
+    requires held { S.tells → 0 < frame
+        → IsItemAt (S.file source.old) (project_facts plan.now.project) (frame - 1) (take held room.old) }
+    requires earlier { S.tells
+        → IsSome (values_of (S.file source.old) (project_facts plan.now.project) (take frame (cells_of (project_facts plan.now.project)))) }
 
-    ensures item { S.tells → IfOk result (λ n. TakesItem (S.file source.old) (project_facts plan.now.project) frame (take n room.new) (S.taken source.old) (S.taken source.new)) }
+    ensures item { S.tells
+        → IfOk result (λ n. TakesItem (S.file source.old) (project_facts plan.now.project) frame
+        (take n room.new) (S.taken source.old) (S.taken source.new)) }
     ensures size { IfOk result (λ n. n ≤ ROOM) }
     ensures same_files { S.file source.new ≡ S.file source.old }
 
     ensures unbuilt { result ≡ Err MakeEnd.Unbuilt → IsFalse (is_built (project_facts plan.now.project)) }
-    ensures missing { (name : List ℕ) → result ≡ Err (MakeEnd.InputMissing name) → IsMissingFrame S.tells (S.file source.old) (project_facts plan.now.project) name }
-    ensures missing_count { (name : List ℕ) → result ≡ Err (MakeEnd.InputMissing name) → HasRisen (S.absent source.old) (S.absent source.new) }
-    ensures bad { (f : ℕ) (why : BadWhy) → result ≡ Err (MakeEnd.BadFrame f why) → IsBadFrame S.tells (S.file source.old) (project_facts plan.now.project) f why }
+    ensures missing { (name : List ℕ) → result ≡ Err (MakeEnd.InputMissing name)
+        → IsMissingFrame S.tells (S.file source.old) (project_facts plan.now.project) name }
+    ensures missing_count { (name : List ℕ) → result ≡ Err (MakeEnd.InputMissing name)
+        → HasRisen (S.absent source.old) (S.absent source.new) }
+    ensures bad { (f : ℕ) (why : BadWhy) → result ≡ Err (MakeEnd.BadFrame f why)
+        → IsBadFrame S.tells (S.file source.old) (project_facts plan.now.project) f why }
     ensures source_fault { result ≡ Err MakeEnd.SourceFault → HasRisen (S.faults source.old) (S.faults source.new) }
     ensures no_store_fault { result ≢ Err MakeEnd.StoreFault }
 
