@@ -18,7 +18,8 @@ fn told(alloc: Global, text: &[u8]) -> Result<Bytes, NoMemory> {
     }
 }
 
-fn changed(alloc: Global, from: &str, to: &str) -> Result<String, AllocError> {
+/// The base text with another text in the place of one that stands in it.
+fn changed(rt: &impl Abort, alloc: Global, from: &str, to: &str) -> Result<String, AllocError> {
     match BASE.split_once(from) {
         Some((before, after)) => {
             let mut text = String::from_str(alloc, before)?;
@@ -26,13 +27,16 @@ fn changed(alloc: Global, from: &str, to: &str) -> Result<String, AllocError> {
             text.push_str(after)?;
             Ok(text)
         }
-        None => String::from_str(alloc, BASE),
+        None => {
+            assert!(rt; false, "the base text has no {from}");
+            Ok(String::new(alloc))
+        }
     }
 }
 
 fn tells(rt: &impl Abort, alloc: Global, rows: &[Row<'_>]) -> Result<(), NoMemory> {
     for (from, to, want) in rows {
-        let text = changed(alloc, *from, *to)?;
+        let text = changed(rt, alloc, *from, *to)?;
         let line = told(alloc, text.as_bytes())?;
         assert!(rt; line.as_slice() == want.as_bytes(), "{want} at {to}");
     }
@@ -434,14 +438,32 @@ fn the_first_fault_is_told(rt: HostRuntime) -> Result<(), Fail> {
     Ok(())
 }
 
-const WHAT_IS_ACCEPTED: [Row<'static>; 27] = [
-    ("zz", "zz", "accepted"),
+/// Each number and each text at its least.
+const LEAST: &str =
+    "{\"title\":\"x\",\"kind\":\"psa\",\"issued\":\"1900-01-01T00:00:00\",\"namespace\":\"00000000-0000-0000-0000-000000000000\",\"width\":32,\"height\":32,\"fps\":24,\"rate\":10,\"power\":11,\"channels\":0,\"frames\":1,\"assets\":[{\"id\":\"-\",\"kind\":\"ppm\",\"file\":\".\"},{\"id\":\"_\",\"kind\":\"pcm24\",\"file\":\"s\",\"channels\":1}],\"picture\":[{\"asset\":\"-\",\"at\":0,\"from\":0,\"count\":1,\"hold\":1}],\"sound\":[{\"asset\":\"_\",\"at\":0,\"from\":0,\"count\":1,\"gains\":[]}]}";
+
+/// Each number and each text at its greatest.
+const GREATEST: &str =
+    "{\"title\":\"~~~~~~~~~~~~~~~~~~~~~~~~~~~~~~~~~~~~~~~~~~~~~~~~~~~~~~~~~~~~~~~~~~~~~~~~~~~~~~~~~~~~~~~~~~~~~~~~~~~~\",\"kind\":\"advertisement\",\"issued\":\"9999-12-31T23:59:59\",\"namespace\":\"ffffffff-ffff-ffff-ffff-ffffffffffff\",\"width\":2048,\"height\":1080,\"fps\":48,\"rate\":250,\"power\":13,\"channels\":16,\"frames\":432000,\"assets\":[{\"id\":\"zzzzzzzzzzzzzzzzzzzzzzzzzzzzzzzzzzzzzzzz\",\"kind\":\"j2c\",\"file\":\"ffffffffffffffffffffffffffffffffffffffffffffffffffffffffffffffffffffffffffffffffffffffffffffffffffffffffffffffffffffffffffffffffffffffffffffffffffffffffffffffffffffffffffffffffffffffffffffffffffffffff\"},{\"id\":\"s\",\"kind\":\"pcm24\",\"file\":\"s\",\"channels\":16}],\"picture\":[{\"asset\":\"zzzzzzzzzzzzzzzzzzzzzzzzzzzzzzzzzzzzzzzz\",\"at\":0,\"from\":999999,\"count\":432000,\"hold\":100},{\"asset\":\"zzzzzzzzzzzzzzzzzzzzzzzzzzzzzzzzzzzzzzzz\",\"at\":431999,\"from\":999999,\"count\":1,\"hold\":100}],\"sound\":[{\"asset\":\"s\",\"at\":0,\"from\":999999,\"count\":432000,\"gains\":[[15,15,262144],[0,0,0]]},{\"asset\":\"s\",\"at\":431999,\"from\":999999,\"count\":1,\"gains\":[]}]}";
+
+/// Five black frames.
+const NO_ITEMS: &str =
+    "{\"title\":\"Test\",\"kind\":\"test\",\"issued\":\"2024-05-01T12:00:00\",\"namespace\":\"6ba7b810-9dad-11d1-80b4-00c04fd430c8\",\"width\":64,\"height\":48,\"fps\":24,\"rate\":250,\"power\":11,\"channels\":0,\"frames\":5,\"assets\":[],\"picture\":[],\"sound\":[]}";
+
+const WHAT_IS_ACCEPTED: [Row<'static>; 33] = [
+    (BASE, BASE, "accepted"),
+    (BASE, LEAST, "accepted"),
+    (BASE, GREATEST, "accepted"),
+    (BASE, NO_ITEMS, "accepted"),
     ("\"width\":64", "\"width\":32", "accepted"),
     ("\"width\":64", "\"width\":2048", "accepted"),
     ("\"height\":48", "\"height\":32", "accepted"),
     ("\"height\":48", "\"height\":1080", "accepted"),
+    ("\"fps\":24", "\"fps\":25", "accepted"),
+    ("\"fps\":24", "\"fps\":30", "accepted"),
     ("\"fps\":24", "\"fps\":48", "accepted"),
     ("\"rate\":250", "\"rate\":10", "accepted"),
+    ("\"power\":11", "\"power\":12", "accepted"),
     ("\"power\":11", "\"power\":13", "accepted"),
     ("\"frames\":24", "\"frames\":432000", "accepted"),
     (
@@ -498,23 +520,40 @@ fn what_is_accepted(rt: HostRuntime) -> Result<(), Fail> {
     Ok(())
 }
 
-fn spaces(alloc: Global, times: usize) -> Result<Vec<u8>, AllocError> {
-    vec![in alloc; b' '; times]
+/// The text with spaces behind it, up to this length.
+fn padded(alloc: Global, text: &str, length: usize) -> Result<Vec<u8>, AllocError> {
+    let mut bytes = text.as_bytes().to_vec(alloc)?;
+    let spaces = Vec::from_elem(alloc, b' ', length.saturating_sub(text.len()))?;
+    bytes.extend_from_slice(&spaces)?;
+    Ok(bytes)
+}
+
+fn tells_padded(
+    rt: &impl Abort,
+    alloc: Global,
+    text: &str,
+    length: usize,
+    want: &str,
+) -> Result<(), NoMemory> {
+    let bytes = padded(alloc, text, length)?;
+    let line = told(alloc, &bytes)?;
+    assert!(rt; line.as_slice() == want.as_bytes(), "{want} at {length}");
+    Ok(())
 }
 
 #[test]
 fn texts_that_are_long_or_no_text(rt: HostRuntime) -> Result<(), Fail> {
     let alloc = rt.alloc();
-    let too_long = spaces(alloc, 8_388_609)?;
-    assert!(rt; told(alloc, &too_long)?.as_slice() == b"P11 8388609".as_slice());
-    let longest = spaces(alloc, 8_388_608)?;
-    assert!(rt; told(alloc, &longest)?.as_slice() == b"P1".as_slice());
+    tells_padded(&rt, alloc, BASE, 8_388_608, "accepted")?;
+    tells_padded(&rt, alloc, BASE, 8_388_609, "P11 8388609")?;
+    tells_padded(&rt, alloc, "", 8_388_608, "P1")?;
+    tells_padded(&rt, alloc, "", 8_388_610, "P11 8388610")?;
     assert!(rt; told(alloc, b"{\"a\":\"\xFF\"}")?.as_slice() == b"P1".as_slice());
     Ok(())
 }
 
 /// A list in the base text, an item, how often that item stands in its place, and what is told.
-const LISTS: [(&str, &str, usize, &str); 6] = [
+const LISTS: [(&str, &str, usize, &str); 10] = [
     ("[[0,1,65536]]", "[0,1,1]", 256, "accepted"),
     ("[[0,1,65536]]", "[0,1,1]", 257, "P6 sound[0].gains 257"),
     ("[[0,1,65536]]", "[9,9,9]", 257, "P6 sound[0].gains 257"),
@@ -530,6 +569,30 @@ const LISTS: [(&str, &str, usize, &str); 6] = [
         "7",
         1001,
         "P6 picture 1001",
+    ),
+    (
+        "[{\"asset\":\"s\",\"at\":0,\"from\":0,\"count\":24,\"gains\":[[0,1,65536]]}]",
+        "{\"asset\":\"s\",\"at\":0,\"from\":0,\"count\":24,\"gains\":[[0,1,65536]]}",
+        1000,
+        "accepted",
+    ),
+    (
+        "[{\"asset\":\"s\",\"at\":0,\"from\":0,\"count\":24,\"gains\":[[0,1,65536]]}]",
+        "7",
+        1001,
+        "P6 sound 1001",
+    ),
+    (
+        "[{\"id\":\"a\",\"kind\":\"rgb48\",\"file\":\"a.rgb\"},{\"id\":\"s\",\"kind\":\"pcm24\",\"file\":\"s.pcm\",\"channels\":2}]",
+        "7",
+        1000,
+        "P2 assets[0]",
+    ),
+    (
+        "[{\"id\":\"a\",\"kind\":\"rgb48\",\"file\":\"a.rgb\"},{\"id\":\"s\",\"kind\":\"pcm24\",\"file\":\"s.pcm\",\"channels\":2}]",
+        "7",
+        1001,
+        "P6 assets 1001",
     ),
 ];
 
