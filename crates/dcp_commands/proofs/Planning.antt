@@ -13,13 +13,10 @@ use Rattle.make_engine.specs.Package.{Files}
 use Rattle.dcp_commands.specs.Inputs.{is_named, missing_at, missing_before, missing_input, short_end}
 use Rattle.dcp_commands.specs.declared.inputs.PlanEnd.TheVariants.{InputShort}
 
-both : (t a b : Bool) → a ≡ b → (t || a) ≡ (t || b)
-both t a b is = ap (λ v. t || v) is
-
 -- a test of some items, made of what is seen of them
 pub list_any_mapped : {X Y : Type 0} (g : X → Y) (p : Y → Bool) (xs : List X) → list_any (λ x. p (g x)) xs ≡ list_any p (map g xs)
 list_any_mapped g p [] = refl
-list_any_mapped g p (x ∷ xs) = both (p (g x)) (list_any (λ y. p (g y)) xs) (list_any p (map g xs)) (list_any_mapped g p xs)
+list_any_mapped g p (x ∷ xs) = ap (λ any. p (g x) || any) (list_any_mapped g p xs)
 
 -- one asset more
 pub missing_more : (files : Files) (project : ProjectFacts) (n : ℕ) → missing_before files project n ≡ None → missing_before files project (n + 1) ≡ missing_at files project n

@@ -1,19 +1,22 @@
 -- The item of one frame, and one more frame in the picture file.
 use Rattle.std.proofs.Common.{◌≡◌, ℕ, zero, suc, ◌+◌, ◌-◌, ◌*◌, ◌<◌, ◌≤◌, Bool, true, false, ◌&&◌, List, [], ◌∷◌, ◌++◌, length, take, cond, get_or, sum_by, Option, Some, None, option_map, inl, inr, refl, sym, ◌∙◌, ap, subst, add-one, arith}
-use Rattle.std.proofs.lemmas.List.FromFn.{length-map-range_with_len}
 use Rattle.std.proofs.Math.Nat.{div-lt_iff_lt-mul}
 use Rattle.std.proofs.lemmas.List.Folds.{list_all_at}
-use Rattle.std.proofs.lemmas.Option.{slice_get-get_or}
+use Rattle.std.proofs.Math.Bool.{and-false}
+use Rattle.std.proofs.Math.Seq.{take-suc}
+use Rattle.std.proofs.lemmas.Grind.{flat_map-append}
+use Rattle.std.proofs.lemmas.Option.{slice_get-get_or, slice_get_within}
 use Rattle.std.proofs.lemmas.Bool.Decides.{nat_tests}
-use Rattle.std.proofs.lemmas.List.{append_assoc, append-nil}
+use Rattle.std.proofs.lemmas.List.{append-nil}
 use Rattle.std.proofs.lemmas.List.Sums.{sum_by_push}
 use Rattle.std.specs.List.{flat_map, list_all}
 use Rattle.std.specs.Prelude.{◌==◌, option_and_then, slice_get, IsTrue, IsSome, ◌↔◌}
+use Rattle.film_plan.proofs.Cells.{length-cells_of}
 use Rattle.film_plan.specs.Plan.{limits_of}
 use Rattle.film_project.specs.Facts.{ProjectFacts}
 use Rattle.film_project.specs.Members.{is_frame_rate}
 use Rattle.film_timeline.proofs.Fresh.{fresh_step}
-use Rattle.film_timeline.specs.Timeline.{IsFresh, cell_at, cells_of, fresh_cells}
+use Rattle.film_timeline.specs.Timeline.{IsFresh, cells_of, fresh_cells}
 use Rattle.film_timeline.specs.declared.cell.Cell.{Cell}
 use Rattle.film_timeline.specs.declared.cell.Cell.TheVariants.{Black}
 use Rattle.mast_world.specs.Count.{counted}
@@ -27,11 +30,8 @@ use Rattle.make_engine.specs.declared.outcome.BadWhy.{BadWhy}
 abbrev pub Repeats : List Cell → ℕ → Type 0
 Repeats cells f = (0 < f) × (slice_get cells f ≡ slice_get cells (f - 1))
 
-pub cells_length : (project : ProjectFacts) → length (cells_of project) ≡ project.frames
-cells_length project = length-map-range_with_len (cell_at project.picture) 0 project.frames
-
 pub cell_there : (project : ProjectFacts) (cells : List Cell) (f : ℕ) → cells ≡ cells_of project → f < project.frames → f < length cells
-cell_there project cells f are below = rw (are, cells_length project) below
+cell_there project cells f are below = rw (are, length-cells_of project) below
 
 -- the greatest limit
 pub limit_small : (project : ProjectFacts) → project.rate ≤ 250 → IsTrue (is_frame_rate project.fps) → (limits_of project).frame ≤ 1302083
@@ -41,15 +41,11 @@ limit_small project rate known =
     let small = (div-lt_iff_lt-mul {k = project.fps} {x = project.rate * 125000} {y = 1302084} (omega arith)).1 below in
     omega (arith, small)
 
-never : (b : Bool) → b && false ≡ false
-never true = refl
-never false = refl
-
 -- a cell that isn't built leaves nothing built
 pub not_built : (project : ProjectFacts) (cells : List Cell) (f : ℕ) → cells ≡ cells_of project → f < length cells → is_ready project (get_or cells f Black) ≡ false → is_built project ≡ false
 not_built project cells f are below unready =
     ap (λ ready. project.channels == 0 && ready) (ap (list_all (is_ready project)) (sym are) ∙ list_all_at (is_ready project) cells f Black below unready)
-    ∙ never (project.channels == 0)
+    ∙ and-false (project.channels == 0)
 
 mapped : (o : Option (List ℕ)) (bytes : List ℕ) → option_map item o ≡ Some bytes → (value : List ℕ) × (o ≡ Some value) × (bytes ≡ item value)
 mapped None bytes h = absurd (cc)
@@ -146,9 +142,10 @@ values_push files project (x ∷ cells) values cell value shown one =
     rw (parts.2, values_push files project cells parts.1 cell value parts.3 one) (ap (λ vs. Some (vs ++ value ∷ [])) parts.4)
 
 take_next : (cells : List Cell) (f : ℕ) (cell : Cell) → slice_get cells f ≡ Some cell → take (suc f) cells ≡ take f cells ++ cell ∷ []
-take_next [] f cell is = absurd (cc)
-take_next (x ∷ cells) zero cell is = (let same : x ≡ cell = cc in rw same refl)
-take_next (x ∷ cells) (suc f) cell is = ap (λ cells. x ∷ cells) (take_next cells f cell is)
+take_next cells f cell is =
+    let below = slice_get_within cells f cell is in
+    let there : get_or cells f cell ≡ cell = cc (is, slice_get-get_or cells f cell below) in
+    take-suc cells f cell below ∙ ap (λ c. take f cells ++ c ∷ []) there
 
 -- a fresh frame's value is one more
 fresh_push : (files : Files) (project : ProjectFacts) (cells : List Cell) (fresh : List (List ℕ)) (cell : Cell) (value : List ℕ) (repeats : Bool) → values_of files project cells ≡ Some fresh → value_of files project cell ≡ Some value → values_of files project (cells ++ cond repeats [] (cell ∷ [])) ≡ Some (fresh ++ cond repeats [] (value ∷ []))
@@ -160,8 +157,7 @@ sum_more fresh value true = ap (sum_by length) (append-nil fresh) ∙ omega arit
 sum_more fresh value false = sum_by_push length fresh value
 
 items_push : (values : List (List ℕ)) (value : List ℕ) → flat_map item (values ++ value ∷ []) ≡ flat_map item values ++ item value
-items_push [] value = append-nil (item value)
-items_push (v ∷ values) value = ap (λ bytes. item v ++ bytes) (items_push values value) ∙ sym (append_assoc (item v) (flat_map item values) (item value))
+items_push values value = flat_map-append item values (value ∷ []) ∙ ap (λ bytes. flat_map item values ++ bytes) (append-nil (item value))
 
 -- one more frame was copied
 pub HasCopied_more : (volume_tells : Type 0) (files : Files) (project : ProjectFacts) (f : ℕ) (before now bytes : List ℕ) (taken_first taken_before taken_now : ℕ) → HasCopied volume_tells files project f before taken_first taken_before → TakesItem files project f bytes taken_before taken_now → (volume_tells → now ≡ before ++ bytes) → HasCopied volume_tells files project (f + 1) now taken_first taken_now

@@ -4,6 +4,7 @@ use Rattle.std.proofs.lemmas.Bool.Decides.{nat_tests}
 use Rattle.std.proofs.lemmas.List.{take_all}
 use Rattle.std.specs.List.{flat_map}
 use Rattle.std.specs.Prelude.{option_and_then, slice_get, unwrap_or, IsSome}
+use Rattle.film_plan.proofs.Cells.{length-cells_of}
 use Rattle.film_plan.specs.Plan.{limits_of}
 use Rattle.film_project.specs.Facts.{ProjectFacts}
 use Rattle.film_project.specs.declared.asset.AssetKind.{AssetKind}
@@ -11,7 +12,6 @@ use Rattle.film_project.specs.declared.asset.AssetKind.TheVariants.{Rgb48, Ppm, 
 use Rattle.film_timeline.specs.Timeline.{cells_of, fresh_cells}
 use Rattle.film_timeline.specs.declared.cell.Cell.{Cell}
 use Rattle.mast_world.specs.Count.{counted}
-use Rattle.make_engine.proofs.Frames.{cells_length}
 use Rattle.make_engine.specs.Causes.{IsBadFrame, IsMissingFrame, ShowsFile}
 use Rattle.make_engine.specs.Engine.{HasCopied}
 use Rattle.make_engine.specs.Item.{item}
@@ -21,7 +21,7 @@ use Rattle.make_engine.specs.declared.outcome.MakeEnd.{MakeEnd}
 use Rattle.make_engine.specs.declared.outcome.MakeEnd.TheVariants.{InputMissing, BadFrame, SourceFault, StoreFault, Unbuilt, NoMemory}
 
 all_cells : (project : ProjectFacts) → take project.frames (cells_of project) ≡ cells_of project
-all_cells project = (let length_is = cells_length project in take_all project.frames (cells_of project) (omega arith))
+all_cells project = (let length_is = length-cells_of project in take_all project.frames (cells_of project) (omega arith))
 
 -- once all frames are copied the picture file is whole
 pub picture_made : {tells : Type 0} (told : tells) (files : Files) (project : ProjectFacts) (picture : List ℕ) (before now : ℕ) → HasCopied tells files project project.frames picture before now → picture_of files project ≡ Some picture
