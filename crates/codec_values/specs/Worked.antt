@@ -1,21 +1,21 @@
 -- The inputs of worked values.
 use Rattle.std.specs.Prelude.{ℕ, Bool, true, false, List, [], ◌∷◌, map, ℤ, pos, negsuc, Result, Ok, Err}
-use Rattle.mast_world.specs.declared.picture.Shape.{Shape}
-use Rattle.mast_world.specs.declared.picture.Band.{Band}
-use Rattle.mast_world.specs.declared.picture.BandKind.{BandKind}
-use Rattle.mast_world.specs.declared.picture.BandKind.TheVariants.{LL}
-use Rattle.mast_world.specs.declared.packet.PacketBlock.{PacketBlock}
-use Rattle.mast_world.specs.declared.packet.PacketBand.{PacketBand}
-use Rattle.mast_world.specs.declared.packet.BandShape.{BandShape}
-use Rattle.mast_world.specs.declared.packet.HeadRefusal.{HeadRefusal}
-use Rattle.mast_world.specs.Bands.{resolution_bands}
-use Rattle.mast_world.specs.Precincts.{BlockArea, block_columns, block_rows, blocks_in, Precinct, packet_order}
-use Rattle.mast_world.specs.Codestream.{block_places}
-use Rattle.mast_world.specs.StreamReading.{read_block}
-use Rattle.mast_world.specs.Mq.{Decision}
-use Rattle.mast_world.specs.PacketHeader.{pass_bits, packed}
-use Rattle.mast_world.specs.PacketReading.{BitPlace, pass_count_read}
-use Rattle.mast_world.specs.BlockDecisions.{Block}
+use Rattle.codec_terms.specs.declared.picture.Shape.{Shape}
+use Rattle.codec_terms.specs.declared.picture.Band.{Band}
+use Rattle.codec_terms.specs.declared.picture.BandKind.{BandKind}
+use Rattle.codec_terms.specs.declared.picture.BandKind.TheVariants.{LL}
+use Rattle.codec_terms.specs.declared.packet.PacketBlock.{PacketBlock}
+use Rattle.codec_terms.specs.declared.packet.PacketBand.{PacketBand}
+use Rattle.codec_terms.specs.declared.packet.BandShape.{BandShape}
+use Rattle.codec_terms.specs.declared.packet.HeadRefusal.{HeadRefusal}
+use Rattle.codec_terms.specs.Bands.{resolution_bands}
+use Rattle.codec_terms.specs.Precincts.{BlockArea, block_columns, block_rows, blocks_in, Precinct, packet_order}
+use Rattle.codec_terms.specs.Codestream.{block_places}
+use Rattle.codec_terms.specs.StreamReading.{read_block}
+use Rattle.codec_terms.specs.Mq.{Decision}
+use Rattle.codec_terms.specs.PacketHeader.{pass_bits, packed}
+use Rattle.codec_terms.specs.PacketReading.{BitPlace, pass_count_read}
+use Rattle.codec_terms.specs.BlockDecisions.{Block}
 
 -- ---- the arithmetic coder and code-blocks
 

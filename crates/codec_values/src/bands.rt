@@ -1,10 +1,10 @@
 ghost use Rattle.std.specs.Prelude.{◌≡◌, ◌*◌, ◌<◌, ℕ, ℤ, List, length, IsTrue, [], ◌∷◌, map, take, sum_by, count_by, ◌==◌};
 ghost use Rattle.std.specs.List.Sorted.{IsSortedBy};
 ghost use Rattle.std.specs.List.{list_all, range_with_len, flat_map, AllByRecursion};
-ghost use Rattle.mast_world.specs.declared.picture.Shape.{Shape};
-ghost use Rattle.mast_world.specs.Bands.{component_bands, all_bands, band_columns, band_rows, band_length, rank, band_place, band_values};
-ghost use Rattle.mast_world.specs.Encode.{kept_coefficients};
-ghost use Rattle.mast_world.specs.Precincts.{precinct_columns, precinct_rows, Precinct, comes_before, all_precincts, packet_order, OneGroup, HasPrecincts};
+ghost use Rattle.codec_terms.specs.declared.picture.Shape.{Shape};
+ghost use Rattle.codec_terms.specs.Bands.{component_bands, all_bands, band_columns, band_rows, band_length, rank, band_place, band_values};
+ghost use Rattle.codec_terms.specs.Encode.{kept_coefficients};
+ghost use Rattle.codec_terms.specs.Precincts.{precinct_columns, precinct_rows, Precinct, comes_before, all_precincts, packet_order, OneGroup, HasPrecincts};
 
 /// The sub-bands of a picture of 33 columns and 47 rows, and the order of all sub-bands.
 pub fn sub_band_values()

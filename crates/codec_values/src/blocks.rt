@@ -1,8 +1,8 @@
 ghost use Rattle.std.specs.Prelude.{◌≡◌, ◌-◌, true, false, pos, negsuc, [], ◌∷◌, ◌++◌, map, replicate};
-ghost use Rattle.mast_world.specs.declared.picture.BandKind.TheVariants.{LL, HL, LH};
-ghost use Rattle.mast_world.specs.Mq.{codeword};
-ghost use Rattle.mast_world.specs.BlockDecisions.{plane_count, decisions, pass_count};
-ghost use Rattle.mast_world.specs.BlockReading.{block_read};
+ghost use Rattle.codec_terms.specs.declared.picture.BandKind.TheVariants.{LL, HL, LH};
+ghost use Rattle.codec_terms.specs.Mq.{codeword};
+ghost use Rattle.codec_terms.specs.BlockDecisions.{plane_count, decisions, pass_count};
+ghost use Rattle.codec_terms.specs.BlockReading.{block_read};
 ghost use Rattle.codec_values.specs.Worked.{decision, one_sample, four_by_four, known_context_bits, bits_in};
 
 /// The arithmetic coder on no decision, on one, and on bits that carry into the first byte.

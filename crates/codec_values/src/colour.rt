@@ -1,5 +1,5 @@
 ghost use Rattle.std.specs.Prelude.{◌≡◌, ◌^◌, ℕ, suc, [], ◌∷◌, map};
-ghost use Rattle.mast_world.specs.Colour.{xyz_value, x_weights, y_weights, z_weights, IsGreatest, has_fifth_power_within, fifth_root, is_code_within, code_value};
+ghost use Rattle.codec_terms.specs.Colour.{xyz_value, x_weights, y_weights, z_weights, IsGreatest, has_fifth_power_within, fifth_root, is_code_within, code_value};
 
 /// White, black and nearly black at each of the three powers.
 pub fn colour_values()

@@ -1,9 +1,9 @@
 ghost use Rattle.std.specs.Prelude.{◌≡◌, true, false, [], ◌∷◌, ◌++◌, map, replicate, List, Bool, Some, None, Ok, Err};
 ghost use Rattle.std.specs.List.{range_with_len};
-ghost use Rattle.mast_world.specs.TagTree.{new_tree, leaves_bits, blank_tree, pushed, wants, leaf_value};
-ghost use Rattle.mast_world.specs.PacketHeader.{pass_bits, packed, packet, ends_with_ff};
-ghost use Rattle.mast_world.specs.PacketReading.{packet_read};
-ghost use Rattle.mast_world.specs.declared.packet.HeadRefusal.TheVariants.{Truncated, BadStuffing, TooManyPasses, LengthPast, WideLength};
+ghost use Rattle.codec_terms.specs.TagTree.{new_tree, leaves_bits, blank_tree, pushed, wants, leaf_value};
+ghost use Rattle.codec_terms.specs.PacketHeader.{pass_bits, packed, packet, ends_with_ff};
+ghost use Rattle.codec_terms.specs.PacketReading.{packet_read};
+ghost use Rattle.codec_terms.specs.declared.packet.HeadRefusal.TheVariants.{Truncated, BadStuffing, TooManyPasses, LengthPast, WideLength};
 ghost use Rattle.codec_values.specs.Worked.{three_bands, three_shapes, no_bands, shape_of_planes, passes_back};
 
 /// Numbers of passes, and stuffed bytes.

@@ -1,12 +1,12 @@
 ghost use Rattle.std.specs.Prelude.{◌≡◌, ◌≤◌, ℕ, ℤ, pos, [], ◌∷◌, ◌++◌, List, length, map, replicate, slice_set, take, Some, Ok, Err};
-ghost use Rattle.mast_world.specs.declared.picture.Shape.{Shape};
-ghost use Rattle.mast_world.specs.declared.picture.Limits.{Limits};
-ghost use Rattle.mast_world.specs.declared.reading.ReadRefusal.TheVariants.{Marker, PartLength, After};
-ghost use Rattle.mast_world.specs.declared.reading.MarkerRefusal.TheVariants.{Truncated, Marker as WrongMarker, Field};
-ghost use Rattle.mast_world.specs.Bands.{component_bands};
-ghost use Rattle.mast_world.specs.Codestream.{main_header, stream, part_lengths};
-ghost use Rattle.mast_world.specs.Cut.{IsWithin, IsLeastCut, least_cut};
-ghost use Rattle.mast_world.specs.StreamReading.{stream_read};
+ghost use Rattle.codec_terms.specs.declared.picture.Shape.{Shape};
+ghost use Rattle.mast_base.specs.declared.limits.Limits.{Limits};
+ghost use Rattle.codec_terms.specs.declared.reading.ReadRefusal.TheVariants.{Marker, PartLength, After};
+ghost use Rattle.codec_terms.specs.declared.reading.MarkerRefusal.TheVariants.{Truncated, Marker as WrongMarker, Field};
+ghost use Rattle.codec_terms.specs.Bands.{component_bands};
+ghost use Rattle.codec_terms.specs.Codestream.{main_header, stream, part_lengths};
+ghost use Rattle.codec_terms.specs.Cut.{IsWithin, IsLeastCut, least_cut};
+ghost use Rattle.codec_terms.specs.StreamReading.{stream_read};
 ghost use Rattle.codec_values.specs.Worked.{zero_stream, small, wide, labels, labels_found};
 
 /// The smallest picture without any coefficient that isn't zero.

@@ -1,9 +1,9 @@
 ghost use Rattle.std.specs.Prelude.{◌≡◌, ℤ, pos, neg_ℤ, [], ◌∷◌, replicate};
-ghost use Rattle.mast_world.specs.declared.picture.Band.{Band};
-ghost use Rattle.mast_world.specs.declared.picture.BandKind.TheVariants.{LL, HL};
-ghost use Rattle.mast_world.specs.Wavelet.{shifted, luma, chroma_blue, chroma_red, transformed_line};
-ghost use Rattle.mast_world.specs.Bands.{band_of, lowest_plane};
-ghost use Rattle.mast_world.specs.Quantiser.{quantised, kept};
+ghost use Rattle.codec_terms.specs.declared.picture.Band.{Band};
+ghost use Rattle.codec_terms.specs.declared.picture.BandKind.TheVariants.{LL, HL};
+ghost use Rattle.codec_terms.specs.Wavelet.{shifted, luma, chroma_blue, chroma_red, transformed_line};
+ghost use Rattle.codec_terms.specs.Bands.{band_of, lowest_plane};
+ghost use Rattle.codec_terms.specs.Quantiser.{quantised, kept};
 
 /// The component transform of the code values 4095, 2048, 2048.
 pub fn component_values()

@@ -3,7 +3,7 @@
 
 use dcp_commands::{Status, out_name, run, run_make};
 use mast_real::{FolderSource, FolderVolume, StdSink};
-use mast_world::Bytes;
+use mast_base::Bytes;
 use std::alloc::{AllocError, Global};
 use std::io::ErrorKind;
 use std::process::ExitCode;

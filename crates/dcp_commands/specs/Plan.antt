@@ -6,7 +6,7 @@ use Rattle.film_project.specs.Facts.{ProjectFacts}
 use Rattle.film_timeline.specs.Timeline.{cells_of, fresh_cells, is_black}
 use Rattle.film_timeline.specs.declared.cell.Cell.{Cell}
 use Rattle.make_engine.specs.Package.{Files}
-use Rattle.mast_world.specs.declared.picture.Limits.{Limits}
+use Rattle.mast_base.specs.declared.limits.Limits.{Limits}
 use Rattle.dcp_commands.specs.Inputs.{planned}
 use Rattle.dcp_commands.specs.Make.{plan_status}
 use Rattle.dcp_commands.specs.Words.{plan_words}

@@ -9,7 +9,8 @@ use film_plan::{Plan, PlanRefusal, plan};
 use film_project::{
     Asset, AssetKind, PictureClip, Project, ProjectRefusal, SoundClip, read_project,
 };
-use mast_world::{Bytes, Failed, NoMemory, Source};
+use mast_base::{Bytes, NoMemory};
+use mast_world::{Failed, Source};
 use std::alloc::{AllocError, AllocFailed, Global};
 
 /// The greatest size of a project file that is read, in bytes.

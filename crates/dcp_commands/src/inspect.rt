@@ -10,7 +10,8 @@ use crate::line::print;
 use crate::plan_text::plan_text;
 use crate::status::Status;
 use crate::words::plan_words;
-use mast_world::{Bytes, Sink, Source};
+use mast_base::Bytes;
+use mast_world::{Sink, Source};
 use std::alloc::Global;
 
 /// What `plan` prints of the project that the words name.

@@ -13,6 +13,3 @@ pub use inspect::run;
 pub use make::run_make;
 pub use status::Status;
 pub use words::out_name;
-
-#[cfg(test)]
-mod tests;

@@ -8,7 +8,8 @@ ghost use Rattle.dcp_commands.specs.Make.{Answers, status_of};
 use crate::status::Status;
 use film_project::refusal_text;
 use make_engine::{BadWhy, Report};
-use mast_world::{Bytes, NoMemory, Sink};
+use mast_base::{Bytes, NoMemory};
+use mast_world::Sink;
 use std::alloc::{AllocError, Global};
 
 /// What `make` prints of a package, without the line's end.

@@ -13,7 +13,8 @@ use crate::line::{done_text, print};
 use crate::status::Status;
 use crate::words::make_words;
 use make_engine::{Options, make_alone};
-use mast_world::{Bytes, Sink, Source, Volume};
+use mast_base::Bytes;
+use mast_world::{Sink, Source, Volume};
 use std::alloc::Global;
 
 /// What holds where the words say nothing else.

@@ -5,7 +5,7 @@ ghost use Rattle.dcp_commands.specs.Plan.{count_text, limit_text, plan_text, siz
 use film_plan::Plan;
 use film_project::Project;
 use film_timeline::{Cell, black_count, fresh_count};
-use mast_world::{Bytes, Limits, NoMemory};
+use mast_base::{Bytes, Limits, NoMemory};
 use std::alloc::{AllocError, Global};
 
 fn size_text(alloc: Global, project: &Project) -> Result<String, AllocError>

@@ -1,7 +1,7 @@
 use crate::inputs::PlanEnd;
 use film_project::ProjectRefusal;
 use make_engine::{BadWhy, MakeEnd};
-use mast_world::{Bytes, NoMemory};
+use mast_base::{Bytes, NoMemory};
 
 /// How a command ended.
 #[derive(Debug, Drop)]

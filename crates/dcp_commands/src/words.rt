@@ -1,7 +1,7 @@
 ghost use Rattle.std.specs.Prelude.{◌≡◌, map, option_map, string_bytes, IfOk};
 ghost use Rattle.dcp_commands.specs.Words.{MakeWords, is_positional, make_words, plan_words};
 
-use mast_world::{Bytes, NoMemory};
+use mast_base::{Bytes, NoMemory};
 use std::alloc::Global;
 
 /// What `make` is asked for.

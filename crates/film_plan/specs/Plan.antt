@@ -2,7 +2,7 @@
 use Rattle.std.specs.Prelude.{ℕ, ◌*◌, ◌/◌, codes, List, ◌∷◌, ◌++◌, take}
 use Rattle.film_project.specs.Canonical.{canonical_text}
 use Rattle.film_project.specs.Facts.{ProjectFacts}
-use Rattle.mast_world.specs.declared.picture.Limits.{Limits}
+use Rattle.mast_base.specs.declared.limits.Limits.{Limits}
 use Rattle.sha1.specs.Sha1.{sha1}
 use Rattle.uuid.specs.Parts.{with_variant, with_version}
 use Rattle.uuid.specs.declared.Variant.TheVariants.{RFC4122}

@@ -6,7 +6,7 @@ ghost use Rattle.film_timeline.specs.Timeline.{cells_of};
 use crate::ids::Ids;
 use film_project::Project;
 use film_timeline::Cell;
-use mast_world::{Bytes, Limits, List};
+use mast_base::{Bytes, Limits, List};
 
 /// A project with all that follows from it before a frame is read.
 #[derive(Debug, Drop)]

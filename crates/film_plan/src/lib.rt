@@ -12,6 +12,3 @@ pub use ids::Ids;
 pub use job::Plan;
 pub use planning::plan;
 pub use refusal::PlanRefusal;
-
-#[cfg(test)]
-mod tests;

@@ -10,7 +10,7 @@ use crate::needs::need_of;
 use crate::refusal::PlanRefusal;
 use film_project::{Project, ProjectRefusal, project_text, read_project};
 use film_timeline::cells;
-use mast_world::{Bytes, Limits, NoMemory};
+use mast_base::{Bytes, Limits, NoMemory};
 use std::alloc::Global;
 
 /// The plan of a project whose assets have these sizes, in their order, in bytes. Only those of

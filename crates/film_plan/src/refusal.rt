@@ -1,4 +1,4 @@
-use mast_world::{Bytes, NoMemory};
+use mast_base::{Bytes, NoMemory};
 use std::alloc::{AllocError, AllocFailed};
 
 /// Why there is no plan.

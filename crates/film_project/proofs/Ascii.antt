@@ -1,6 +1,6 @@
 -- Texts that keep a rule are ASCII.
 use Rattle.std.proofs.Common.{◌≡◌, ◌≢◌, ℕ, zero, suc, ◌<◌, List, [], ◌∷◌, length, get_or, slice_index, Bool, true, false, not, ◌&&◌, ◌||◌, ◌==◌, nat_le, nat_lt, None, refl, arith}
-use Rattle.std.proofs.lemmas.Bool.{or_parts, and_parts}
+use Rattle.std.proofs.lemmas.Bool.{or_parts, and_parts, not-false}
 use Rattle.std.proofs.lemmas.Bool.Decides.{nat_tests}
 use Rattle.std.proofs.lemmas.Str.{IsUtf8-from_ascii}
 use Rattle.std.proofs.lemmas.Str.Ascii.{IsAscii-from_reads}
@@ -10,10 +10,6 @@ use Rattle.film_project.specs.declared.texts.TextRule.{TextRule}
 use Rattle.film_project.specs.declared.texts.TextRule.TheVariants.{Title, ContentKind, Issued, Namespace, Id, AssetKind, File, AnyText}
 use Rattle.film_project.proofs.Ids.{word_passes}
 use Rattle.film_project.proofs.Kept.{IsKept, kept_parts}
-
-pub not_false : (b : Bool) → not b ≡ false → b ≡ true
-not_false true e = refl
-not_false false e = absurd (cc)
 
 -- ---- the bytes that the rules allow
 
@@ -62,20 +58,20 @@ path_at s k e =
     let first = (k == 0) && (x == 47) in
     let none : (far || bad || first) ≡ false = (or_parts (far || bad || first) (begins_dots s k) e).0 in
     let neither : (far || bad) ≡ false = (or_parts (far || bad) first none).0 in
-    not_false (is_name_byte x || (x == 47)) (or_parts far bad neither).1
+    not-false (is_name_byte x || (x == 47)) (or_parts far bad neither).1
 
 pub kept-ascii : (rule : TextRule) (s : List ℕ) → rule ≢ AnyText → IsKept rule s → IsAscii s
 unfolding all_small
 kept-ascii Title s ruled kept =
-    IsAscii-from_reads s (length s) (omega arith) (λ k h. printable_small (slice_index s k) (not_false _ (or_parts (nat_le 100 k) _ (kept.bytes k h)).1))
+    IsAscii-from_reads s (length s) (omega arith) (λ k h. printable_small (slice_index s k) (not-false _ (or_parts (nat_le 100 k) _ (kept.bytes k h)).1))
 kept-ascii ContentKind s ruled kept =
     IsAscii-from_reads s (length s) (omega arith) (small_reads s (word_passes all_small content_kinds s refl (known _ kept.meaning)))
 kept-ascii Issued s ruled kept =
-    IsAscii-from_reads s (length s) (omega arith) (λ k h. date_small k (slice_index s k) (not_false _ (or_parts (nat_le 19 k) _ (kept.bytes k h)).1))
+    IsAscii-from_reads s (length s) (omega arith) (λ k h. date_small k (slice_index s k) (not-false _ (or_parts (nat_le 19 k) _ (kept.bytes k h)).1))
 kept-ascii Namespace s ruled kept =
-    IsAscii-from_reads s (length s) (omega arith) (λ k h. uuid_small k (slice_index s k) (not_false _ (or_parts (nat_le 36 k) _ (kept.bytes k h)).1))
+    IsAscii-from_reads s (length s) (omega arith) (λ k h. uuid_small k (slice_index s k) (not-false _ (or_parts (nat_le 36 k) _ (kept.bytes k h)).1))
 kept-ascii Id s ruled kept =
-    IsAscii-from_reads s (length s) (omega arith) (λ k h. name_small (slice_index s k) (not_false _ (or_parts (nat_le 40 k) _ (kept.bytes k h)).1))
+    IsAscii-from_reads s (length s) (omega arith) (λ k h. name_small (slice_index s k) (not-false _ (or_parts (nat_le 40 k) _ (kept.bytes k h)).1))
 kept-ascii AssetKind s ruled kept =
     IsAscii-from_reads s (length s) (omega arith) (small_reads s (word_passes all_small asset_kinds s refl (known _ kept.meaning)))
 kept-ascii File s ruled kept =

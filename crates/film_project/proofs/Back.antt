@@ -53,7 +53,7 @@ two_none f g e h = rw (e, h)
 abbrev pub facts : List ℕ → AssetKind → List ℕ → ℕ → AssetFacts
 facts id kind file channels = record { id = id; kind = kind; file = file; channels = channels }
 
-four_none : (f g h k : Option ProjectRefusal) → f ≡ None → g ≡ None → h ≡ None → k ≡ None → option_or f (option_or g (option_or h (option_or k None))) ≡ None
+pub four_none : (f g h k : Option ProjectRefusal) → f ≡ None → g ≡ None → h ≡ None → k ≡ None → option_or f (option_or g (option_or h (option_or k None))) ≡ None
 four_none f g h k a b c d = rw (a, b, c, d)
 
 is_zero : (n : ℕ) → n ≡ 0 → n ≤ 0

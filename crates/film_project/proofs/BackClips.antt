@@ -2,6 +2,7 @@
 use Rattle.std.proofs.Common.{◌≡◌, ◌≢◌, ℕ, suc, ◌+◌, ◌-◌, ◌<◌, ◌≤◌, List, [], ◌∷◌, map, length, slice_index_or, All, Bool, true, false, nat_lt, nat_le, Option, Some, None, refl, sym, ap, ◌∙◌, subst, arith, codes}
 use Rattle.std.specs.List.{AllPairs}
 use Rattle.std.specs.Option.{option_or}
+use Rattle.std.proofs.lemmas.Bool.{le-leb}
 use Rattle.std.proofs.lemmas.Bool.Decides.{nat_tests}
 use Rattle.serde_json.specs.View.{items_of}
 use Rattle.film_project.specs.Accepts.{picture_in, picture_fault, sound_in, sound_fault, input_channels, found_fault}
@@ -97,10 +98,7 @@ gain_kinds_ok name i (g ∷ gs) = gain_kinds_ok name (i + 1) gs
 below : (n m : ℕ) → n < m → nat_lt n m ≡ true
 below n m h = grind (arith, nat_tests)
 
-at_most : (n m : ℕ) → n ≤ m → nat_le n m ≡ true
-at_most n m h = grind (arith, nat_tests)
-
-range_ok : (name : List ℕ) (b : Bool) (n : ℕ) → b ≡ true → range_fault name b n ≡ None
+pub range_ok : (name : List ℕ) (b : Bool) (n : ℕ) → b ≡ true → range_fault name b n ≡ None
 range_ok name b n e = rw e
 
 gain_ranges_ok : (name : List ℕ) (inputs outputs i : ℕ) (gs : List Gain) → All (GainFits inputs outputs) gs
@@ -110,7 +108,7 @@ gain_ranges_ok name inputs outputs i (g ∷ gs) fits =
     let fit = fits 0 g (omega arith) in
     two_none _ _
     (two_none _ _ (range_ok _ (nat_lt g.from inputs) g.from (below g.from inputs fit.0))
-    (two_none _ _ (range_ok _ (nat_lt g.to outputs) g.to (below g.to outputs fit.1)) (range_ok _ (nat_le g.gain 262144) g.gain (at_most g.gain 262144 g.gain_in_range))))
+    (two_none _ _ (range_ok _ (nat_lt g.to outputs) g.to (below g.to outputs fit.1)) (range_ok _ (nat_le g.gain 262144) g.gain (le-leb g.gain 262144 g.gain_in_range))))
     (gain_ranges_ok name inputs outputs (i + 1) gs (λ k d h. fits (suc k) d (omega arith)))
 
 three_none : (f g h : Option ProjectRefusal) → f ≡ None → g ≡ None → h ≡ None → option_or f (option_or g h) ≡ None
@@ -120,7 +118,7 @@ pub gains_ok : (name : List ℕ) (inputs outputs : ℕ) (gs : List Gain) → len
     → gains_fault name inputs outputs (Some (list_of (items_of (map gain_data (map gain_facts gs))))) ≡ None
 gains_ok name inputs outputs gs most fits =
     let short : length (map gain_data (map gain_facts gs)) ≤ 256 = omega (arith, length-map (map gain_facts gs) gain_data, length-map gs gain_facts, most) in
-    rw list_of-items_of (three_none _ _ _ (gain_kinds_ok name 0 (map gain_facts gs)) (range_ok _ _ _ (at_most _ 256 short))
+    rw list_of-items_of (three_none _ _ _ (gain_kinds_ok name 0 (map gain_facts gs)) (range_ok _ _ _ (le-leb _ 256 short))
     (ap (first_of (gain_range_fault name inputs outputs) 0) (gains_back (map gain_facts gs)) ∙ gain_ranges_ok name inputs outputs 0 gs fits))
 
 -- ---- sound clips

@@ -1,6 +1,7 @@
 -- The canonical JSON of a project has no fault, and reads back.
 use Rattle.std.proofs.Common.{◌≡◌, ℕ, ◌+◌, ◌<◌, ◌≤◌, ◌==◌, List, [], ◌++◌, map, length, slice_index, All, Bool, true, false, ◌||◌, not, nat_lt, nat_le, cond, Option, Some, None, refl, sym, ap, ◌∙◌, subst, arith, inl}
 use Rattle.std.specs.Option.{option_or}
+use Rattle.std.proofs.lemmas.Bool.{le-leb}
 use Rattle.std.proofs.lemmas.Bool.Decides.{nat_tests}
 use Rattle.std.proofs.lemmas.List.{length-map}
 use Rattle.serde_json.specs.Data.{Data}
@@ -19,8 +20,8 @@ use Rattle.film_project.specs.declared.project.Project.{Project}
 use Rattle.film_project.specs.declared.place.Place.TheVariants as place
 use Rattle.film_project.specs.declared.refusal.ProjectRefusal.{ProjectRefusal}
 use Rattle.film_project.specs.declared.texts.TextRule.TheVariants as rule
-use Rattle.film_project.proofs.Back.{list_of-items_of, text_ok, number_ok, two_none, assets_ok, assets_back}
-use Rattle.film_project.proofs.BackClips.{pictures_ok, pictures_back, sounds_ok, sounds_back}
+use Rattle.film_project.proofs.Back.{four_none, list_of-items_of, text_ok, number_ok, two_none, assets_ok, assets_back}
+use Rattle.film_project.proofs.BackClips.{range_ok, pictures_ok, pictures_back, sounds_ok, sounds_back}
 use Rattle.film_project.proofs.Kept.{none-first_place}
 use Rattle.film_project.proofs.Walks.{members_fault-later}
 
@@ -63,9 +64,6 @@ namespace_back xs len small = ap (value_or []) (sym (parses_hyphenated lower xs 
 
 -- ---- the members of the top object
 
-four_none : (f g h k : Option ProjectRefusal) → f ≡ None → g ≡ None → h ≡ None → k ≡ None → option_or f (option_or g (option_or h (option_or k None))) ≡ None
-four_none f g h k a b c d = rw (a, b, c, d)
-
 titles_ok : (p : Project) → members_fault place.Project (project_data (project_facts p)) title_members ≡ None
 titles_ok p =
     four_none _ _ _ _ (text_ok _ rule.Title p.title p.title_kept) (text_ok _ rule.ContentKind p.kind p.kind_kept) (text_ok _ rule.Issued p.issued p.issued_kept)
@@ -93,14 +91,8 @@ format_ok p =
     (rate_ok _ p.fps p.fps_known) (number_ok _ 10 250 p.rate p.least_rate p.most_rate) (number_ok _ 11 13 p.power p.least_power p.most_power)
     (number_ok _ 0 16 p.channels (omega arith) p.most_channels) (count_ok _ p.frames p.some_frames p.most_frames)
 
-at_most : (n m : ℕ) → n ≤ m → nat_le n m ≡ true
-at_most n m h = grind (arith, nat_tests)
-
-range_ok : (name : List ℕ) (b : Bool) (n : ℕ) → b ≡ true → range_fault name b n ≡ None
-range_ok name b n e = rw e
-
 list_ok : (name : List ℕ) (ds : List Data) → length ds ≤ 1000 → objects_fault name (Some (list_of (items_of ds))) ≡ None
-list_ok name ds h = rw list_of-items_of (range_ok name (nat_le (length ds) 1000) (length ds) (at_most (length ds) 1000 h))
+list_ok name ds h = rw list_of-items_of (range_ok name (nat_le (length ds) 1000) (length ds) (le-leb (length ds) 1000 h))
 
 three_none : (f g h : Option ProjectRefusal) → f ≡ None → g ≡ None → h ≡ None → option_or f (option_or g (option_or h None)) ≡ None
 three_none f g h a b c = rw (a, b, c)

@@ -1,6 +1,6 @@
 -- A text that keeps the rule of a namespace is a UUID.
 use Rattle.std.proofs.Common.{◌≡◌, ℕ, ◌+◌, ◌*◌, ◌<◌, ◌≤◌, List, All, length, get_or, slice_index, Bool, true, false, not, ◌&&◌, ◌==◌, nat_le, Some, refl, ◌∙◌, arith}
-use Rattle.std.proofs.lemmas.Bool.{or_parts}
+use Rattle.std.proofs.lemmas.Bool.{or_parts, not-false}
 use Rattle.std.proofs.lemmas.Bool.Decides.{nat_tests}
 use Rattle.uuid.specs.Text.{parsed, parsed_hyphenated, has_hyphens, digits_of, is_hex_digit, value_of, byte_of_digits, by_index, hyphen_place, is_hyphen_place}
 use Rattle.uuid.proofs.TextLemmas.{by_index_length, by_index_at, simple_some, hyphens_pass}
@@ -8,16 +8,12 @@ use Rattle.film_project.specs.Texts.{keeps, fits_uuid, is_lower_hex}
 use Rattle.film_project.specs.declared.texts.TextRule.TheVariants.{Namespace}
 use Rattle.film_project.proofs.Kept.{IsKept, kept_parts, short_of}
 
-not_false : (b : Bool) → not b ≡ false → b ≡ true
-not_false true e = refl
-not_false false e = absurd (cc)
-
 hex_lower : (b : ℕ) → is_lower_hex b ≡ true → is_hex_digit b ≡ true
 hex_lower b e = rw e
 
 -- each byte fits its place
 fits_at : (s : List ℕ) → IsKept Namespace s → (k : ℕ) → k < length s → fits_uuid k (slice_index s k) ≡ true
-fits_at s kept k h = not_false _ (or_parts (nat_le 36 k) _ (kept.bytes k h)).1
+fits_at s kept k h = not-false _ (or_parts (nat_le 36 k) _ (kept.bytes k h)).1
 
 four : (a b c d : Bool) → a ≡ true → b ≡ true → c ≡ true → d ≡ true → (a && b && c && d) ≡ true
 four a b c d p q r t = rw (p, q, r, t)

@@ -2,7 +2,7 @@
 use Rattle.std.proofs.Common.{◌≡◌, ℕ, suc, ◌+◌, ◌*◌, ◌^◌, ◌<◌, ◌≤◌, ◌==◌, List, [], ◌∷◌, ◌++◌, map, length, length-append, get_or, slice_index, Bool, true, false, ◌||◌, nat_lt, nat_le, cond, decimal, refl, sym, ap, subst, arith}
 use Rattle.std.specs.List.{flat_map}
 use Rattle.std.proofs.Math.Nat.{mul-suc}
-use Rattle.std.proofs.lemmas.Bool.{or_parts}
+use Rattle.std.proofs.lemmas.Bool.{or_parts, not-false, leb-true}
 use Rattle.std.proofs.lemmas.Bool.Decides.{nat_tests}
 use Rattle.std.proofs.lemmas.Fmt.{length-decimal-le}
 use Rattle.json.specs.Print.{escape_byte, quoted}
@@ -16,7 +16,7 @@ use Rattle.film_project.specs.Texts.{keeps, is_name_byte, is_one_of, content_kin
 use Rattle.film_project.specs.declared.asset.AssetKind.{AssetKind}
 use Rattle.film_project.specs.declared.asset.AssetKind.TheVariants.{Rgb48, Ppm, J2c, Pcm24}
 use Rattle.film_project.specs.declared.texts.TextRule.TheVariants as rule
-use Rattle.film_project.proofs.Ascii.{known, not_false, path_at}
+use Rattle.film_project.proofs.Ascii.{known, path_at}
 use Rattle.film_project.proofs.Ids.{word_passes}
 use Rattle.film_project.proofs.Kept.{kept_parts, short_of}
 
@@ -68,7 +68,7 @@ name_or b c e = rw e
 pub id_size : (s : List ℕ) → keeps rule.Id s ≡ true → length (quoted s) ≤ 42
 id_size s e =
     let kept = kept_parts rule.Id s e in
-    omega (arith, short_of rule.Id s 40 refl kept, plain_text s (λ k h. name_or (is_name_byte (slice_index s k)) _ (not_false _ (or_parts (nat_le 40 k) _ (kept.bytes k h)).1)))
+    omega (arith, short_of rule.Id s 40 refl kept, plain_text s (λ k h. name_or (is_name_byte (slice_index s k)) _ (not-false _ (or_parts (nat_le 40 k) _ (kept.bytes k h)).1)))
 
 pub file_size : (s : List ℕ) → keeps rule.File s ≡ true → length (quoted s) ≤ 202
 file_size s e =
@@ -81,13 +81,10 @@ title_size s e = omega (arith, short_of rule.Title s 100 refl (kept_parts rule.T
 pub issued_size : (s : List ℕ) → keeps rule.Issued s ≡ true → length (quoted s) ≤ 116
 issued_size s e = omega (arith, short_of rule.Issued s 19 refl (kept_parts rule.Issued s e), any_text s)
 
-at_most : (n m : ℕ) → nat_le n m ≡ true → n ≤ m
-at_most n m e = grind (arith, nat_tests)
-
 pub kind_size : (s : List ℕ) → keeps rule.ContentKind s ≡ true → length (quoted s) ≤ 80
 kind_size s e =
     let word = known (is_one_of content_kinds s) (kept_parts rule.ContentKind s e).meaning in
-    omega (arith, at_most (length s) 13 (word_passes (λ w. nat_le (length w) 13) content_kinds s refl word), any_text s)
+    omega (arith, leb-true (length s) 13 (word_passes (λ w. nat_le (length w) 13) content_kinds s refl word), any_text s)
 
 pub namespace_size : (xs : List ℕ) → length (quoted (hyphenated_text lower xs)) ≤ 218
 namespace_size xs =

@@ -3,7 +3,7 @@ ghost use Rattle.film_project.specs.Texts.{keeps};
 ghost use Rattle.film_project.specs.declared.asset.AssetKind.TheVariants.{Pcm24};
 ghost use Rattle.film_project.specs.declared.texts.TextRule.TheVariants.{Id, File};
 
-use mast_world::Bytes;
+use mast_base::Bytes;
 
 /// How an asset's files hold its frames or samples.
 #[derive(Clone, Copy, Debug, PartialEq, Eq)]

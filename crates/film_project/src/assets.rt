@@ -17,7 +17,7 @@ use crate::object::check_object;
 use crate::place::{Place, name_member};
 use crate::refusal::ProjectRefusal;
 use crate::texts::TextRule;
-use mast_world::{Bytes, List};
+use mast_base::{Bytes, List};
 use serde_json::Value;
 use std::alloc::Global;
 

@@ -12,7 +12,7 @@ use crate::asset::{Asset, AssetKind};
 use crate::clip::{Gain, PictureClip, SoundClip};
 use crate::project::Project;
 use crate::texts::TextRule;
-use mast_world::{Bytes, NoMemory};
+use mast_base::{Bytes, NoMemory};
 use serde_json::{Map, Value, json, put};
 use std::alloc::{AllocError, Global};
 use std::str;

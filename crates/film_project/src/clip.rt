@@ -1,6 +1,6 @@
 ghost use Rattle.std.specs.Prelude.{◌≤◌, ◌<◌, length};
 
-use mast_world::List;
+use mast_base::List;
 
 /// Shows frames `from` and on of an asset, each `hold` times, in the frames `at` and on.
 #[derive(Clone, Copy, Debug)]

@@ -14,7 +14,7 @@ use crate::clip::Gain;
 use crate::member::{as_list, find_member, out_of_range};
 use crate::place::{Place, name_item, name_member};
 use crate::refusal::ProjectRefusal;
-use mast_world::List;
+use mast_base::List;
 use serde_json::Value;
 use std::alloc::Global;
 

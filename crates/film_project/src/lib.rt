@@ -24,6 +24,3 @@ pub use project::Project;
 pub use read::read_project;
 pub use refusal::ProjectRefusal;
 pub use texts::TextRule;
-
-#[cfg(test)]
-mod tests;

@@ -2,7 +2,7 @@ ghost use Rattle.std.specs.Prelude.{◌≡◌, ◌++◌, codes, decimal, IfOk, s
 ghost use Rattle.film_project.specs.Refusals.{refusal_line};
 
 use crate::refusal::ProjectRefusal;
-use mast_world::{Bytes, NoMemory};
+use mast_base::{Bytes, NoMemory};
 use std::alloc::{AllocError, Global};
 
 /// The refusal as it is printed: its code, then its fields in their order, with one space before

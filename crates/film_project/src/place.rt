@@ -1,7 +1,7 @@
 ghost use Rattle.std.specs.Prelude.{◌≡◌, ◌++◌, IfOk, string_bytes};
 ghost use Rattle.film_project.specs.Names.{object_name, prefix_of, member_name, item_name};
 
-use mast_world::Bytes;
+use mast_base::Bytes;
 use std::alloc::{AllocError, Global};
 
 /// An object of the project file.

@@ -6,7 +6,7 @@ ghost use Rattle.film_project.specs.declared.texts.TextRule.TheVariants.{Title, 
 
 use crate::asset::Asset;
 use crate::clip::{PictureClip, SoundClip};
-use mast_world::{Bytes, List};
+use mast_base::{Bytes, List};
 
 /// A film, as its project file tells it. Each rule of the file holds of it.
 #[derive(Debug, Drop)]

@@ -19,7 +19,7 @@ use crate::place::Place;
 use crate::project::Project;
 use crate::refusal::ProjectRefusal;
 use crate::texts::TextRule;
-use mast_world::Bytes;
+use mast_base::Bytes;
 use serde_json::Value;
 use std::alloc::Global;
 use uuid::Uuid;

@@ -1,4 +1,4 @@
-use mast_world::{Bytes, NoMemory};
+use mast_base::{Bytes, NoMemory};
 use std::alloc::{AllocError, AllocFailed};
 
 /// Why a text is no project: the first fault in the fixed order. A `name` is that of the member or

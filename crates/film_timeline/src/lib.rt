@@ -10,6 +10,3 @@ mod timeline;
 pub use cell::{Cell, is_repeat};
 pub use count::{black_count, fresh_count};
 pub use timeline::cells;
-
-#[cfg(test)]
-mod tests;

@@ -6,7 +6,7 @@ use crate::cell::Cell;
 use crate::change::next_change;
 use crate::clip::{cell_of, find_last};
 use film_project::Project;
-use mast_world::{List, NoMemory};
+use mast_base::{List, NoMemory};
 use std::alloc::Global;
 
 /// What is shown in each frame of the project: of the clips that cover the frame the last one of

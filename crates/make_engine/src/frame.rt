@@ -15,7 +15,8 @@ use crate::outcome::{BadWhy, MakeEnd};
 use crate::ready::file_of;
 use film_plan::Plan;
 use film_timeline::is_repeat;
-use mast_world::{Bytes, Failed, Source};
+use mast_base::Bytes;
+use mast_world::{Failed, Source};
 use std::alloc::Global;
 
 fn source_fault(_fault: Failed) -> MakeEnd

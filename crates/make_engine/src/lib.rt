@@ -10,6 +10,3 @@ mod ready;
 
 pub use engine::make_alone;
 pub use outcome::{BadWhy, MakeEnd, Options, Report};
-
-#[cfg(test)]
-mod tests;

@@ -1,6 +1,6 @@
 ghost use Rattle.std.specs.Prelude.{◌≡◌};
 
-use mast_world::{Bytes, NoMemory};
+use mast_base::{Bytes, NoMemory};
 use std::alloc::{AllocError, AllocFailed};
 
 /// How a run is to be done. None of it shows in the package.

@@ -8,6 +8,3 @@ mod std_sink;
 pub use folder_source::FolderSource;
 pub use folder_volume::FolderVolume;
 pub use std_sink::StdSink;
-
-#[cfg(test)]
-mod tests;

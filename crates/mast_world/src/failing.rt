@@ -2,7 +2,8 @@ ghost use Rattle.std.specs.Prelude.{◌≡◌, ◌≤◌, ◌↔◌, OnErr, OnOk
 ghost use Rattle.mast_world.specs.Count.{counted, HasRisen};
 ghost use Rattle.mast_world.specs.Failing.{planned_failures};
 
-use crate::{Failed, List};
+use crate::Failed;
+use mast_base::List;
 
 /// A count after n more, which stands still at its end.
 pub fn count_on(count: u64, n: u64) -> u64

@@ -1,16 +1,11 @@
 ghost use Rattle.std.specs.Prelude.{Some, codes};
 
-use std::alloc::{AllocError, AllocFailed};
 use std::error::Error;
 use std::fmt;
 
 /// A device did not do what it was asked.
 #[derive(Clone, Copy, Debug, PartialEq, Eq)]
 pub struct Failed;
-
-/// A call found no memory.
-#[derive(Clone, Copy, Debug, PartialEq, Eq)]
-pub struct NoMemory;
 
 /// The output folder failed.
 #[derive(Clone, Copy, Debug, PartialEq, Eq)]
@@ -24,14 +19,6 @@ impl fmt::Display for Failed {
     }
 }
 
-impl fmt::Display for NoMemory {
-    ghost output = { λ _. Some (codes "no memory") };
-
-    fn fmt<W: fmt::Write>(&self, f: &mut fmt::Formatter<W>) -> fmt::Result {
-        f.write_str("no memory")
-    }
-}
-
 impl fmt::Display for StoreFault {
     ghost output = { λ _. Some (codes "store fault") };
 
@@ -42,21 +29,7 @@ impl fmt::Display for StoreFault {
 
 impl Error for Failed {}
 
-impl Error for NoMemory {}
-
 impl Error for StoreFault {}
-
-impl From<AllocError> for NoMemory {
-    fn from(_error: AllocError) -> Self {
-        NoMemory
-    }
-}
-
-impl<T: Drop> From<AllocFailed<T>> for NoMemory {
-    fn from(_error: AllocFailed<T>) -> Self {
-        NoMemory
-    }
-}
 
 impl From<Failed> for StoreFault {
     fn from(_error: Failed) -> Self {

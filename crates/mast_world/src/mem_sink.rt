@@ -2,7 +2,8 @@ ghost use Rattle.std.specs.Prelude.{◌≡◌, []};
 ghost use Rattle.mast_world.specs.Failing.{planned_failures};
 
 use crate::failing::Failing;
-use crate::{Failed, List, Sink};
+use crate::{Failed, Sink};
+use mast_base::List;
 use std::alloc::Global;
 
 /// A sink in memory. It takes a list of the calls that are to fail, counted from 1.

@@ -4,7 +4,8 @@ ghost use Rattle.mast_world.specs.MemFile.{content, content_of};
 ghost use Rattle.mast_world.specs.Failing.{planned_failures};
 
 use crate::failing::{Failing, count_on};
-use crate::{Bytes, Failed, List, Source};
+use crate::{Failed, Source};
+use mast_base::{Bytes, List};
 
 /// A file in memory. Its byte j is that of `bytes` where there is one, else `fill`.
 #[derive(Debug, Drop)]

@@ -8,7 +8,8 @@ ghost use Rattle.mast_world.specs.Failing.{planned_failures};
 
 use crate::failing::{Failing, count_on};
 use crate::file_entry::{FileEntry, position_of};
-use crate::{Failed, FileId, List, Volume};
+use crate::{Failed, FileId, Volume};
+use mast_base::List;
 use std::alloc::{AllocError, Global};
 
 /// A file of a volume in memory.

@@ -3,10 +3,10 @@ use Rattle.std.proofs.Common.{◌≡◌, ℕ, ◌-◌, ◌*◌, ◌/◌, ◌%◌
 use Rattle.std.specs.Prelude.{nat_lt, nat_le}
 use Rattle.std.specs.Bool.{beq}
 use Rattle.std.proofs.lemmas.Bool.{cond-true, cond-false, le-ltb, lt-ltb, le-leb, lt-leb}
-use Rattle.mast_world.specs.Mq.{State, Reading, Decoder, qe_of, after_mps, after_lps, state_at, is_lower, lower_reading, upper_reading, part_read, read_is_mps, is_quiet, state_after, states_read, renormalised_reading, decoded_bit, decoder_after, decoder_of, first_byte, byte_in, shifted_in, start_states, next_byte, behind}
+use Rattle.codec_terms.specs.Mq.{State, Reading, Decoder, qe_of, after_mps, after_lps, state_at, is_lower, lower_reading, upper_reading, part_read, read_is_mps, is_quiet, state_after, states_read, renormalised_reading, decoded_bit, decoder_after, decoder_of, first_byte, byte_in, shifted_in, start_states, next_byte, behind}
 use Rattle.mq_coder.specs.Rows.{state_of, IsRow}
 use Rattle.mq_coder.specs.declared.rows.Row.{Row}
-use Rattle.mq_coder.proofs.Decisions.{qe-small, qe-positive}
+use Rattle.mq_laws.proofs.Decisions.{qe-small, qe-positive}
 use Rattle.mq_coder.proofs.Coding.{state_at-map, map-set, next-state, first_states}
 use Rattle.mq_coder.proofs.Inputs.{reading, renorm-done}
 

@@ -5,23 +5,18 @@ use Rattle.std.specs.Bool.{beq}
 use lib.Count.{count_leading_zeros}
 use Rattle.std.proofs.lemmas.Bool.{cases_lt, cond-true, cond-false, ltb-true, le-ltb, le-leb, lt-leb, and_parts}
 use Rattle.std.proofs.lemmas.Nat.{leading_top}
-use Rattle.mast_world.specs.Mq.{Registers, State, Encoder, qe_of, after_mps, after_lps, state_at, is_mps, lower_part, upper_part, renormalised, coded_one, start, start_states}
+use Rattle.codec_terms.specs.Mq.{Registers, State, Encoder, qe_of, after_mps, after_lps, state_at, is_mps, lower_part, upper_part, renormalised, coded_one, start, start_states}
 use Rattle.mq_coder.specs.Bytes.{doublings, registers_of}
-use Rattle.mq_coder.specs.Parts.{lower_kept, part_kept}
-use Rattle.mq_coder.specs.Ready.{Clean, Carries, Valid, Ready}
+use Rattle.mq_laws.specs.Parts.{lower_kept, part_kept}
+use Rattle.mq_laws.specs.Ready.{Clean, Carries, Valid, Ready}
 use Rattle.mq_coder.specs.Rows.{state_of, IsRow}
 use Rattle.mq_coder.specs.declared.rows.Row.{Row}
-use Rattle.mq_coder.proofs.Decisions.{renorm-done, part-cases, valid-part, ready-part, coded-registers, coded-states, states_coded-is, qe-small}
+use Rattle.mq_laws.proofs.Decisions.{lower-width, upper-width, renorm-done, part-cases, valid-part, ready-part, coded-registers, coded-states, states_coded-is, qe-small}
+use Rattle.mq_coder.proofs.Table.{beq-true}
 use Rattle.mq_coder.proofs.Doublings.{doublings-renormalise, quiet, regs-eq}
 use Rattle.mq_coder.specs.declared.interval.Interval.{Interval}
 
 -- ---- the test of the part
-
-beq-true : (x y : Bool) → beq x y ≡ true → x ≡ y
-beq-true true true h = refl
-beq-true true false h = cc
-beq-true false true h = cc
-beq-true false false h = refl
 
 lower-by : (m z : Bool) → beq z m ≡ cond m z (not z)
 lower-by true true = refl
@@ -139,14 +134,6 @@ next-below false n v row h p = omega (arith, h.lps_state)
 abbrev pub enc : Registers → List State → Encoder
 enc r s = record { registers = r; states = s }
 
-lower-is : (qe : ℕ) (r : Registers) → (lower_part qe r).a ≡ qe
-unfolding lower_part
-lower-is qe r = refl
-
-upper-is : (qe : ℕ) (r : Registers) → (upper_part qe r).a ≡ r.a - qe
-unfolding upper_part
-upper-is qe r = refl
-
 -- the upper part of a less probable symbol is narrow
 lps-narrow : (s : State) (a : ℕ) → lower_kept false (qe_of s) a ≡ false → a - qe_of s < 0x8000
 unfolding lower_kept
@@ -170,12 +157,12 @@ pub quiet-wide :
     (m && nat_le 0x8000 (r.a - qe_of s)) ≡ true
 quiet-wide true s r =
     part-cases true (qe_of s) r (λ x. 0x8000 ≤ x.a → nat_le 0x8000 (r.a - qe_of s) ≡ true)
-    (λ _ h. absurd (omega (arith, subst (λ x. 0x8000 ≤ x) (lower-is (qe_of s) r) h, qe-small s)))
-    (λ _ h. le-leb 0x8000 (r.a - qe_of s) (subst (λ x. 0x8000 ≤ x) (upper-is (qe_of s) r) h))
+    (λ _ h. absurd (omega (arith, subst (λ x. 0x8000 ≤ x) (lower-width (qe_of s) r) h, qe-small s)))
+    (λ _ h. le-leb 0x8000 (r.a - qe_of s) (subst (λ x. 0x8000 ≤ x) (upper-width (qe_of s) r) h))
 quiet-wide false s r =
     part-cases false (qe_of s) r (λ x. 0x8000 ≤ x.a → false ≡ true)
-    (λ _ h. absurd (omega (arith, subst (λ x. 0x8000 ≤ x) (lower-is (qe_of s) r) h, qe-small s)))
-    (λ p h. absurd (omega (arith, subst (λ x. 0x8000 ≤ x) (upper-is (qe_of s) r) h, lps-narrow s r.a p)))
+    (λ _ h. absurd (omega (arith, subst (λ x. 0x8000 ≤ x) (lower-width (qe_of s) r) h, qe-small s)))
+    (λ p h. absurd (omega (arith, subst (λ x. 0x8000 ≤ x) (upper-width (qe_of s) r) h, lps-narrow s r.a p)))
 
 pub moved-narrow :
     (m : Bool) (s : State) (r : Registers) → (part_kept m (qe_of s) r).a < 0x8000 →
@@ -183,7 +170,7 @@ pub moved-narrow :
 moved-narrow true s r =
     part-cases true (qe_of s) r (λ x. x.a < 0x8000 → nat_le 0x8000 (r.a - qe_of s) ≡ false)
     (λ p _. lt-leb 0x8000 (r.a - qe_of s) (below p))
-    (λ _ h. lt-leb 0x8000 (r.a - qe_of s) (subst (λ x. x < 0x8000) (upper-is (qe_of s) r) h))
+    (λ _ h. lt-leb 0x8000 (r.a - qe_of s) (subst (λ x. x < 0x8000) (upper-width (qe_of s) r) h))
   where
     true_false : true ≡ false → ⊥
     true_false p = cc

@@ -1,14 +1,15 @@
 -- Doublings by a count: those before the next byte at once, and then the byte.
 use Rattle.std.proofs.Common.{◌≡◌, ℕ, zero, suc, ◌+◌, ◌-◌, ◌*◌, ◌%◌, ◌^◌, ◌<◌, ◌≤◌, List, [], ◌∷◌, reverse, refl, sym, ap, subst, ◌∙◌, arith, pow-suc, pow-add, pow_pos, pow_mono, mul-le-mul_left, mul-le-mul_right, mod-eq_of_lt}
 use Rattle.std.proofs.lemmas.List.{reverse-reverse}
-use Rattle.mast_world.specs.Mq.{Registers, last_byte, behind, byte_out, out_at_zero, doubled, renormalised}
+use Rattle.codec_terms.specs.Mq.{Registers, last_byte, behind, byte_out, out_at_zero, doubled, renormalised}
 use Rattle.mq_coder.specs.Bytes.{with_last, IsNext, doublings}
-use Rattle.mq_coder.specs.Ready.{Valid}
+use Rattle.mq_laws.specs.Ready.{Valid}
 use Rattle.mq_coder.specs.declared.interval.NextByte.{NextByte}
-use Rattle.mq_coder.proofs.Sound.{out-byte}
-use Rattle.mq_coder.proofs.Flush.{sound-shift}
-use Rattle.mq_coder.proofs.Steps.{regs, doubled-quiet, valid-doubled, doubled-width, out-valid}
-use Rattle.mq_coder.proofs.Decisions.{renorm-done, renorm-more}
+use Rattle.mq_laws.proofs.Numbers.{behind-cons}
+use Rattle.mq_laws.proofs.Sound.{out-byte}
+use Rattle.mq_laws.proofs.Flush.{sound-shift}
+use Rattle.mq_laws.proofs.Steps.{regs, doubled-quiet, valid-doubled, doubled-width, out-valid}
+use Rattle.mq_laws.proofs.Decisions.{renorm-done, renorm-more}
 use Rattle.mq_coder.proofs.Outputs.{with_last-same}
 
 pub regs-eq :
@@ -128,10 +129,6 @@ with_last-twice : (bytes : List ℕ) (x y : ℕ) → with_last x (with_last y by
 with_last-twice [] x y = refl
 with_last-twice (b ∷ bs) x y = refl
 
-behind-is : (b : ℕ) (bs : List ℕ) → behind (b ∷ bs) ≡ bs
-unfolding behind
-behind-is b bs = refl
-
 reverse-same : (xs ys : List ℕ) → reverse xs ≡ reverse ys → xs ≡ ys
 reverse-same xs ys p = sym (reverse-reverse xs) ∙ ap reverse p ∙ reverse-reverse ys
 
@@ -143,7 +140,7 @@ pub taken-back :
     reverse back ≡ with_last last (behind (reverse put)) → back ≡ old
 taken-back last byte x old put back is_last is_put is_back =
     reverse-same back old
-    (is_back ∙ ap (λ l. with_last last (behind l)) is_put ∙ ap (with_last last) (behind-is byte (with_last x (reverse old)))
+    (is_back ∙ ap (λ l. with_last last (behind l)) is_put ∙ ap (with_last last) (behind-cons byte (with_last x (reverse old)))
     ∙ with_last-twice (reverse old) last x ∙ with_last-same (reverse old) last (sym is_last))
 
 -- as many doublings as bring A to 8000

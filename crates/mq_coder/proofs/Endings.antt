@@ -4,16 +4,17 @@ use Rattle.std.specs.Prelude.{◌==◌, nat_lt, bit_or}
 use Rattle.std.proofs.lemmas.List.{reverse-reverse, length-reverse}
 use Rattle.std.proofs.lemmas.Bool.{cond-true, cond-false, lt-ltb, le-ltb, eq-eqb, ne_eqb}
 use Rattle.std.proofs.lemmas.Nat.{le_or_r}
-use Rattle.mast_world.specs.Mq.{Encoder, State, Decision, contexts_of, bits_of, last_byte, byte_out, low_ones, bits_set, shifted_out, without_last_ff, flushed_bytes, coded, codeword, decoded}
+use Rattle.codec_terms.specs.Mq.{Encoder, State, Decision, contexts_of, bits_of, last_byte, byte_out, low_ones, bits_set, shifted_out, without_last_ff, flushed_bytes, coded, codeword, decoded}
 use Rattle.mq_coder.specs.Bytes.{with_last, IsNext, registers_of}
 use Rattle.mq_coder.specs.Tails.{IsTail}
 use Rattle.mq_coder.specs.Values.{flushed_value}
 use Rattle.mq_coder.specs.declared.interval.Interval.{Interval}
 use Rattle.mq_coder.specs.declared.interval.NextByte.{NextByte}
 use Rattle.mq_coder.specs.declared.tail.Tail.{Tail}
-use Rattle.mq_coder.proofs.Steps.{regs}
-use Rattle.mq_coder.proofs.Flush.{set-is}
-use Rattle.mq_coder.proofs.ReadBack.{read-back}
+use Rattle.mq_laws.proofs.Numbers.{last-cons}
+use Rattle.mq_laws.proofs.Steps.{regs}
+use Rattle.mq_laws.proofs.Flush.{set-is}
+use Rattle.mq_laws.proofs.ReadBack.{read-back}
 
 -- ---- the value that is flushed
 
@@ -54,10 +55,6 @@ shift-form : (a c ct : ℕ) (bytes : List ℕ) → shifted_out (regs a c ct byte
 unfolding shifted_out
 shift-form a c ct bytes = refl
 
-last-is : (b : ℕ) (bs : List ℕ) → last_byte (b ∷ bs) ≡ b
-unfolding last_byte
-last-is b bs = refl
-
 pub tail-is :
     (last v : ℕ) (at : Interval) (first second : NextByte) → 0x8000 ≤ at.a → (at.c + at.a) * 2 ^ at.ct ≤ 0x9000000 →
     v ≡ flushed_value at.a at.c → IsNext last (v * 2 ^ at.ct % 2 ^ 32) first → first.c * 2 ^ first.ct < 2 ^ 28 →
@@ -78,7 +75,7 @@ tail-is last v at first second wide within is_v n1 room n2 =
           let two : shifted_out (shifted_out (bits_set (regs at.a at.c at.ct bytes))) ≡
           regs at.a second.c second.ct (second.byte ∷ second.last ∷ with_last first.last bytes) =
           ap shifted_out one ∙ shift-form at.a first.c first.ct (first.byte ∷ with_last first.last bytes)
-          ∙ m2.out at.a first.ct (first.byte ∷ with_last first.last bytes) (last-is first.byte (with_last first.last bytes)) in
+          ∙ m2.out at.a first.ct (first.byte ∷ with_last first.last bytes) (last-cons first.byte (with_last first.last bytes)) in
           ap (λ r. r.bytes) two;
     }
 

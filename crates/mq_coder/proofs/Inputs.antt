@@ -4,7 +4,8 @@ use Rattle.std.specs.Prelude.{◌==◌, nat_lt}
 use lib.Count.{count_leading_zeros}
 use Rattle.std.proofs.lemmas.Bool.{cond-true, cond-false, eq-eqb, ne_eqb, lt-ltb, le-ltb, ltb-true, ltb-false}
 use Rattle.std.proofs.lemmas.Nat.{mul-mod_first}
-use Rattle.mast_world.specs.Mq.{Reading, next_byte, behind, add_bits, byte_in, marker_in, stuffed_byte_in, whole_byte_in, in_at_zero, read_on, renormalised_reading}
+use Rattle.codec_terms.specs.Mq.{Reading, next_byte, behind, add_bits, byte_in, marker_in, stuffed_byte_in, whole_byte_in, in_at_zero, read_on, renormalised_reading}
+use Rattle.mq_laws.proofs.ReadBack.{reading-cases, reading-zero}
 use Rattle.mq_coder.specs.Sources.{read_doublings}
 use Rattle.mq_coder.proofs.Coding.{count-of}
 
@@ -150,25 +151,9 @@ on-width t = ap (λ a. 2 * a) (in-width t)
 
 -- ---- renormalisation by a count
 
-pub renorm-cases :
-    (n : ℕ) (t : Reading) (P : Reading → Type 0) →
-    (t.a < 0x8000 → P (renormalised_reading n (read_on (in_at_zero t)))) → (0x8000 ≤ t.a → P t) →
-    P (renormalised_reading (suc n) t)
-unfolding renormalised_reading
-renorm-cases n t P low high = by_test (nat_lt t.a 0x8000) refl
-  where
-    by_test : (b : Bool) → nat_lt t.a 0x8000 ≡ b →
-        P (elim b [ true ↦ renormalised_reading n (read_on (in_at_zero t)) | false ↦ t ])
-    by_test true e = low (ltb-true t.a 0x8000 e)
-    by_test false e = high (ltb-false t.a 0x8000 e)
-
-renorm-zero : (t : Reading) → renormalised_reading zero t ≡ t
-unfolding renormalised_reading
-renorm-zero t = refl
-
 pub renorm-done : (n : ℕ) (t : Reading) → 0x8000 ≤ t.a → renormalised_reading n t ≡ t
-renorm-done zero t h = renorm-zero t
-renorm-done (suc n) t h = renorm-cases n t (λ x. x ≡ t) (λ low. absurd (omega (arith, h, low))) (λ _. refl)
+renorm-done zero t h = reading-zero t
+renorm-done (suc n) t h = reading-cases n t (λ x. x ≡ t) (λ low. absurd (omega (arith, h, low))) (λ _. refl)
 
 pub renorm-is :
     (s n : ℕ) (t : Reading) → s ≤ n → 0x8000 ≤ t.a * 2 ^ s → t.a * 2 ^ s < 2 ^ 16 →
@@ -180,7 +165,7 @@ renorm-is (suc s) n t p high narrow =
     let doubled : 0x8000 ≤ t.a * 2 ^ s * 2 = omega (arith, rw pow-suc at high) in
     let low : t.a < 0x8000 = omega (arith, halved, mul-le-mul_left t.a (pow_pos s)) in
     ap (λ i. renormalised_reading i t) form
-    ∙ renorm-cases (n - 1) t (λ x. x ≡ renormalised_reading (n - 1) (read_on (in_at_zero t))) (λ _. refl) (λ h. absurd (omega (arith, h, low)))
+    ∙ reading-cases (n - 1) t (λ x. x ≡ renormalised_reading (n - 1) (read_on (in_at_zero t))) (λ _. refl) (λ h. absurd (omega (arith, h, low)))
     ∙ renorm-is s (n - 1) (read_on (in_at_zero t)) (omega arith) (rw (on-width t) (omega (arith, doubled))) (rw (on-width t) (omega (arith, halved)))
     ∙ sym (on-suc s t)
 
@@ -191,14 +176,11 @@ renormalise-reading t pos low =
     let n = count-of t.a pos low in
     renorm-is (count_leading_zeros 32 t.a - 16) 15 t n.few n.high n.narrow
 
-on-wide : (s : ℕ) (t : Reading) → (read_doublings s t).a ≡ t.a * 2 ^ s
-on-wide zero t = ap (λ x. x.a) (on-zero t) ∙ omega arith
-on-wide (suc s) t =
-    ap (λ x. x.a) (on-suc s t) ∙ on-wide s (read_on (in_at_zero t)) ∙ ap (λ a. a * 2 ^ s) (on-width t)
-    ∙ (let e : 2 * t.a * 2 ^ s ≡ t.a * 2 ^ suc s = rw pow-suc (omega arith) in e)
-
 pub doublings-width : (s : ℕ) (t : Reading) → (read_doublings s t).a ≡ t.a * 2 ^ s
-doublings-width s t = on-wide s t
+doublings-width zero t = ap (λ x. x.a) (on-zero t) ∙ omega arith
+doublings-width (suc s) t =
+    ap (λ x. x.a) (on-suc s t) ∙ doublings-width s (read_on (in_at_zero t)) ∙ ap (λ a. a * 2 ^ s) (on-width t)
+    ∙ (let e : 2 * t.a * 2 ^ s ≡ t.a * 2 ^ suc s = rw pow-suc (omega arith) in e)
 
 -- ---- doublings in two parts
 

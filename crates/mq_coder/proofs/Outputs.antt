@@ -3,7 +3,7 @@ use Rattle.std.proofs.Common.{◌≡◌, ℕ, suc, ◌+◌, ◌-◌, ◌/◌, �
 use Rattle.std.specs.Prelude.{◌==◌, nat_lt}
 use Rattle.std.proofs.lemmas.List.{reverse-append, get_or-reverse}
 use Rattle.std.proofs.lemmas.Bool.{cond-true, cond-false, eq-eqb, ne_eqb, lt-ltb, le-ltb}
-use Rattle.mast_world.specs.Mq.{last_byte, behind, with_carry, byte_out, carried_byte_out, whole_byte_out, stuffed_byte_out}
+use Rattle.codec_terms.specs.Mq.{last_byte, behind, with_carry, byte_out, carried_byte_out, whole_byte_out, stuffed_byte_out}
 use Rattle.mq_coder.specs.Bytes.{with_last, IsNext}
 use Rattle.mq_coder.specs.declared.interval.NextByte.{NextByte}
 

@@ -3,22 +3,22 @@ use Rattle.std.proofs.Common.{subst, ◌≡◌, ℕ, ◌+◌, ◌-◌, ◌*◌, 
 use Rattle.std.specs.Prelude.{bit_and}
 use Rattle.std.proofs.lemmas.List.{reverse-reverse, length-reverse, reverse-append}
 use Rattle.std.proofs.lemmas.Nat.{and_mask}
-use Rattle.mast_world.specs.Mq.{Registers, Decision, last_byte, behind, coded, coded_from, start, codeword, without_last_ff, with_carry, doubled, renormalised, lower_part, upper_part, coded_one, state_at, is_mps, qe_of, Encoder}
+use Rattle.codec_terms.specs.Mq.{Registers, Decision, last_byte, behind, coded, coded_from, start, codeword, without_last_ff, with_carry, doubled, renormalised, lower_part, upper_part, coded_one, state_at, is_mps, qe_of, Encoder}
 use Rattle.mq_coder.specs.Endings.{Continues, ending_of}
 use Rattle.mq_coder.specs.Marks.{mark_of}
-use Rattle.mq_coder.specs.Ready.{Clean, Ready, Sound, Valid}
+use Rattle.mq_laws.specs.Ready.{Clean, Ready, Sound, Valid}
 use Rattle.mq_coder.specs.Bytes.{with_last, registers_of}
 use Rattle.mq_coder.specs.Tails.{IsTail}
 use Rattle.mq_coder.specs.declared.interval.Interval.{Interval}
 use Rattle.mq_coder.specs.declared.tail.Tail.{Tail}
 use Rattle.mq_coder.proofs.Endings.{flushed-is}
 use Rattle.mq_coder.specs.declared.ending.Ending.{Ending}
-use Rattle.mq_coder.proofs.Decisions.{ready-coded_from, renorm-zero, renorm-cases, part-cases, valid-part, coded-registers, ready-coded_one, coded_from-cons, coded_from-nil}
-use Rattle.mq_coder.specs.Parts.{part_kept}
-use Rattle.mq_coder.proofs.Sound.{Out}
-use Rattle.mq_coder.proofs.Steps.{regs, ct-form, doubled-quiet, doubled-out, valid-doubled}
+use Rattle.mq_laws.proofs.Decisions.{ready-coded_from, renorm-zero, renorm-cases, part-cases, valid-part, coded-registers, ready-coded_one, coded_from-cons, coded_from-nil}
+use Rattle.mq_laws.specs.Parts.{part_kept}
+use Rattle.mq_laws.proofs.Sound.{Out}
+use Rattle.mq_laws.proofs.Steps.{regs, ct-form, doubled-quiet, doubled-out, valid-doubled}
 use Rattle.mq_coder.proofs.Outputs.{reverse-push}
-use Rattle.mq_coder.proofs.ReadBack.{ready-start}
+use Rattle.mq_laws.proofs.ReadBack.{ready-start}
 
 pub behind-length : (l : List ℕ) → length (behind l) ≡ length l - 1
 unfolding behind

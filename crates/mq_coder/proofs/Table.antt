@@ -3,12 +3,12 @@ use Rattle.std.proofs.Common.{◌≡◌, ℕ, zero, suc, ◌<◌, Bool, true, fa
 use Rattle.std.specs.Prelude.{nat_lt, ◌==◌}
 use Rattle.std.specs.Bool.{beq}
 use Rattle.std.proofs.lemmas.Bool.{cases_eq, and_parts, ltb-true, eqb-true}
-use Rattle.mast_world.specs.Mq.{State, row_at, probabilities, qe_of, after_mps, after_lps}
+use Rattle.codec_terms.specs.Mq.{State, row_at, probabilities, qe_of, after_mps, after_lps}
 use Rattle.mq_coder.specs.Rows.{state_of, IsRow}
 use Rattle.mq_coder.specs.declared.rows.Row.{Row}
 use Rattle.mq_coder.specs.declared.rows.TheConstants.{ROWS}
 
-beq-true : (x y : Bool) → beq x y ≡ true → x ≡ y
+pub beq-true : (x y : Bool) → beq x y ≡ true → x ≡ y
 beq-true true true h = refl
 beq-true true false h = cc
 beq-true false true h = cc

@@ -1,6 +1,6 @@
 -- Bytes that come out of the encoder, and doublings by a count.
 use Rattle.std.specs.Prelude.{◌≡◌, ℕ, zero, suc, List, [], ◌∷◌, reverse}
-use Rattle.mast_world.specs.Mq.{Registers, last_byte, byte_out, doubled}
+use Rattle.codec_terms.specs.Mq.{Registers, last_byte, byte_out, doubled}
 use Rattle.mq_coder.specs.declared.interval.NextByte.{NextByte}
 use Rattle.mq_coder.specs.declared.interval.Interval.{Interval}
 

@@ -1,6 +1,6 @@
 -- What an ending says of the encoder that it was taken from.
 use Rattle.std.specs.Prelude.{◌≡◌, ℕ, ◌+◌, List, length, take, reverse}
-use Rattle.mast_world.specs.Mq.{Decision, Encoder, behind, flushed_bytes, coded}
+use Rattle.codec_terms.specs.Mq.{Decision, Encoder, behind, flushed_bytes, coded}
 use Rattle.mq_coder.specs.Marks.{mark_of}
 use Rattle.mq_coder.specs.declared.ending.Ending.{Ending}
 

@@ -1,9 +1,7 @@
 pub mod Bytes
 pub mod Endings
 pub mod Marks
-pub mod Parts
 pub mod Reading
-pub mod Ready
 pub mod Rows
 pub mod Seen
 pub mod Tails

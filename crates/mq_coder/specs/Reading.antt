@@ -1,6 +1,6 @@
 -- What contracts see of a reader: the decoder of the charts.
 use Rattle.std.specs.Prelude.{ℕ, ◌<◌, ◌≤◌, ◌^◌, map, get_or}
-use Rattle.mast_world.specs.Mq.{Decoder}
+use Rattle.codec_terms.specs.Mq.{Decoder}
 use Rattle.mq_coder.specs.Rows.{state_of}
 use Rattle.mq_coder.specs.Sources.{reading_of}
 use Rattle.mq_coder.specs.declared.reader.Reader.TheInside.{Inside}

@@ -1,6 +1,6 @@
 -- States as one number: twice the index of a row of Table C.2, and one more where the more probable symbol is 1.
 use Rattle.std.specs.Prelude.{◌≡◌, ℕ, ◌/◌, ◌%◌, ◌<◌, ◌==◌}
-use Rattle.mast_world.specs.Mq.{State, qe_of, after_mps, after_lps}
+use Rattle.codec_terms.specs.Mq.{State, qe_of, after_mps, after_lps}
 use Rattle.mq_coder.specs.declared.rows.Row.{Row}
 
 abbrev pub state_of : ℕ → State

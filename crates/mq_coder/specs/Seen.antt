@@ -1,8 +1,8 @@
 -- What contracts see of a coder: the encoder of the charts.
 use Rattle.std.specs.Prelude.{ℕ, ◌<◌, map, get_or}
-use Rattle.mast_world.specs.Mq.{Encoder}
+use Rattle.codec_terms.specs.Mq.{Encoder}
 use Rattle.mq_coder.specs.Bytes.{registers_of}
-use Rattle.mq_coder.specs.Ready.{Ready}
+use Rattle.mq_laws.specs.Ready.{Ready}
 use Rattle.mq_coder.specs.Rows.{state_of}
 use Rattle.mq_coder.specs.declared.coder.Coder.TheInside.{Inside}
 

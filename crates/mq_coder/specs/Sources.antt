@@ -1,6 +1,6 @@
 -- The decoder's registers, and doublings by a count.
 use Rattle.std.specs.Prelude.{ℕ, zero, suc}
-use Rattle.mast_world.specs.Mq.{Reading, in_at_zero, read_on}
+use Rattle.codec_terms.specs.Mq.{Reading, in_at_zero, read_on}
 use Rattle.mq_coder.specs.declared.interval.Interval.{Interval}
 use Rattle.mq_coder.specs.declared.source.Source.{Source}
 

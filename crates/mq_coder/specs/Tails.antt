@@ -1,6 +1,6 @@
 -- The end of the bytes that a flush gives.
 use Rattle.std.specs.Prelude.{◌≡◌, ℕ, List, ◌∷◌}
-use Rattle.mast_world.specs.Mq.{last_byte, bits_set, shifted_out}
+use Rattle.codec_terms.specs.Mq.{last_byte, bits_set, shifted_out}
 use Rattle.mq_coder.specs.Bytes.{with_last}
 use Rattle.mq_coder.specs.declared.interval.Interval.{Interval}
 use Rattle.mq_coder.specs.declared.tail.Tail.{Tail}

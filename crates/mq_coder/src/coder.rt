@@ -2,7 +2,7 @@ use crate::ending::{Ending, front_len, last_mark};
 use crate::interval::{Interval, doubled, last_of, part_of, shifted};
 use crate::rows::{START, row_of};
 use crate::tail::{end_with, tail_of};
-use mast_world::{Bytes, NoMemory};
+use mast_base::{Bytes, NoMemory};
 use std::alloc::Global;
 use std::marker::Model;
 
@@ -15,7 +15,7 @@ pub struct Coder {
 }
 
 impl Model for Coder {
-    ghost use Rattle.mast_world.specs.Mq.{Encoder};
+    ghost use Rattle.codec_terms.specs.Mq.{Encoder};
 
     ghost Value = { Encoder };
 
@@ -28,7 +28,7 @@ impl Model for Coder {
 
 impl Coder {
     ghost use Rattle.std.specs.Prelude.{◌≡◌, ◌<◌, ◌^◌, OnOk, OnErr, IfOk, List, length, reverse};
-    ghost use Rattle.mast_world.specs.Mq.{Decision, contexts_of, bits_of, start, coded_one, coded, codeword, flushed_bytes, decoded};
+    ghost use Rattle.codec_terms.specs.Mq.{Decision, contexts_of, bits_of, start, coded_one, coded, codeword, flushed_bytes, decoded};
     ghost use Rattle.mq_coder.specs.Endings.{ending_of};
 
     /// An encoder of no decisions yet (INITENC, C.2.8). It takes no memory.

@@ -1,11 +1,11 @@
 ghost use Rattle.std.specs.Prelude.{◌≡◌, ◌+◌, ◌*◌, ◌<◌, IfOk, List, length, reverse};
-ghost use Rattle.mast_world.specs.Mq.{Decision, behind, coded, codeword};
+ghost use Rattle.codec_terms.specs.Mq.{Decision, behind, coded, codeword};
 ghost use Rattle.mq_coder.specs.Endings.{Continues};
 ghost use Rattle.mq_coder.specs.Marks.{mark_of};
 
 use crate::interval::{Interval, last_of};
 use crate::tail::{end_with, tail_of};
-use mast_world::{Bytes, NoMemory};
+use mast_base::{Bytes, NoMemory};
 use std::alloc::Global;
 
 /// The registers of an encoder at a place where its codeword may end.

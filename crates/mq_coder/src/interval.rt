@@ -1,10 +1,10 @@
 ghost use Rattle.std.specs.Prelude.{◌≡◌, ◌+◌, ◌-◌, ◌*◌, ◌/◌, ◌%◌, ◌^◌, ◌<◌, ◌≤◌, ◌∷◌, IfOk, OnOk, OnErr, ℕ, List, reverse};
-ghost use Rattle.mast_world.specs.Mq.{last_byte, behind};
+ghost use Rattle.codec_terms.specs.Mq.{last_byte, behind};
 ghost use Rattle.mq_coder.specs.Bytes.{with_last, registers_of, IsNext, doublings};
-ghost use Rattle.mq_coder.specs.Parts.{part_kept};
-ghost use Rattle.mq_coder.specs.Ready.{Valid};
+ghost use Rattle.mq_laws.specs.Parts.{part_kept};
+ghost use Rattle.mq_laws.specs.Ready.{Valid};
 
-use mast_world::{Bytes, NoMemory};
+use mast_base::{Bytes, NoMemory};
 
 /// The interval A, the code register C, and the doublings CT before the next byte.
 #[derive(Clone, Copy, Debug)]

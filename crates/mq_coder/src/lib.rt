@@ -8,8 +8,6 @@ mod reader;
 mod rows;
 mod source;
 mod tail;
-#[cfg(test)]
-mod tests;
 
 pub use coder::Coder;
 pub use ending::{Ending, flushed};

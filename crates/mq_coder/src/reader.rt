@@ -12,7 +12,7 @@ pub struct Reader<'a> {
 }
 
 impl<'a> Model for Reader<'a> {
-    ghost use Rattle.mast_world.specs.Mq.{Decoder};
+    ghost use Rattle.codec_terms.specs.Mq.{Decoder};
 
     ghost Value = { Decoder };
 
@@ -25,7 +25,7 @@ impl<'a> Model for Reader<'a> {
 
 impl<'a> Reader<'a> {
     ghost use Rattle.std.specs.Prelude.{◌≡◌, ◌<◌};
-    ghost use Rattle.mast_world.specs.Mq.{decoder_of, decoded_bit, decoder_after};
+    ghost use Rattle.codec_terms.specs.Mq.{decoder_of, decoded_bit, decoder_after};
 
     /// A decoder at the beginning of the bytes (INITDEC, C.3.5).
     pub fn new(bytes: &'a [u8]) -> Self

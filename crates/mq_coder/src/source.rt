@@ -1,5 +1,5 @@
 ghost use Rattle.std.specs.Prelude.{◌≡◌, ◌*◌, ◌+◌, ◌-◌, ◌^◌, ◌%◌, ◌<◌, ◌≤◌, ℕ};
-ghost use Rattle.mast_world.specs.Mq.{next_byte, behind, byte_in, renormalised_reading, part_read};
+ghost use Rattle.codec_terms.specs.Mq.{next_byte, behind, byte_in, renormalised_reading, part_read};
 ghost use Rattle.mq_coder.specs.Sources.{reading_of, reading_at, read_doublings};
 ghost use Rattle.mq_coder.specs.declared.source.Source.{Source};
 

@@ -1,11 +1,11 @@
 ghost use Rattle.std.specs.Prelude.{◌≡◌, ◌+◌, ◌*◌, ◌^◌, ◌<◌, ◌≤◌, ◌∷◌, OnOk, reverse};
-ghost use Rattle.mast_world.specs.Mq.{without_last_ff};
+ghost use Rattle.codec_terms.specs.Mq.{without_last_ff};
 ghost use Rattle.mq_coder.specs.Bytes.{with_last};
 ghost use Rattle.mq_coder.specs.Tails.{IsTail};
 ghost use Rattle.mq_coder.specs.Values.{flushed_value};
 
 use crate::interval::{Interval, next_byte, put};
-use mast_world::{Bytes, NoMemory};
+use mast_base::{Bytes, NoMemory};
 
 /// What a flush makes of the last byte, and the two bytes that it puts behind it.
 #[derive(Clone, Copy, Debug)]

@@ -1,5 +1,5 @@
 -- The laws of coefficients.
-use Rattle.mast_world.proofs.CoefficientLaws.{flat_map-band_values, kept_coefficients-zero}
+use Rattle.codec_terms.proofs.CoefficientLaws.{flat_map-band_values, kept_coefficients-zero}
 use Rattle.codec_values.proofs.bands.coefficient_laws.Goals as goal
 
 pub returns-clause-in_turn : goal.returns-clause-in_turn

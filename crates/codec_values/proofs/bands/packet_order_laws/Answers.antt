@@ -1,5 +1,5 @@
 -- The laws of the order of packets.
-use Rattle.mast_world.proofs.OrderLaws.{sum_by-packet_order, IsSortedBy-packet_order}
+use Rattle.codec_terms.proofs.OrderLaws.{sum_by-packet_order, IsSortedBy-packet_order}
 use Rattle.codec_values.proofs.bands.packet_order_laws.Goals as goal
 
 pub returns-clause-same : goal.returns-clause-same

@@ -1,6 +1,6 @@
 -- The laws of sub-bands and of code-blocks.
-use Rattle.mast_world.proofs.BandLaws.{sum_by-component_bands}
-use Rattle.mast_world.proofs.BlockLaws.{one_block, one_precinct, has_precincts}
+use Rattle.codec_terms.proofs.BandLaws.{sum_by-component_bands}
+use Rattle.codec_terms.proofs.BlockLaws.{one_block, one_precinct, has_precincts}
 use Rattle.codec_values.proofs.bands.sub_band_laws.Goals as goal
 
 pub returns-clause-sizes : goal.returns-clause-sizes

@@ -1,5 +1,5 @@
 -- The laws of what is greatest.
-use Rattle.mast_world.proofs.ColourLaws.{fifth_root-greatest, code_value-greatest}
+use Rattle.codec_terms.proofs.ColourLaws.{fifth_root-greatest, code_value-greatest}
 use Rattle.codec_values.proofs.colour.colour_laws.Goals as goal
 
 pub returns-clause-fifth_root : goal.returns-clause-fifth_root

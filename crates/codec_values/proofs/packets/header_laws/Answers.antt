@@ -1,5 +1,5 @@
 -- The law of a header's last byte.
-use Rattle.mast_world.proofs.HeaderLaws.{packed-ends}
+use Rattle.codec_terms.proofs.HeaderLaws.{packed-ends}
 use Rattle.codec_values.proofs.packets.header_laws.Goals as goal
 
 pub returns : goal.returns

@@ -1,5 +1,5 @@
 -- The law of the least cut.
-use Rattle.mast_world.proofs.CutLaws.{least_cut-is}
+use Rattle.codec_terms.proofs.CutLaws.{least_cut-is}
 use Rattle.codec_values.proofs.streams.cut_laws.Goals as goal
 
 pub returns : goal.returns

@@ -1,5 +1,5 @@
 -- The law of cut 0.
-use Rattle.mast_world.proofs.QuantiserLaws.{kept-cut_zero}
+use Rattle.codec_terms.proofs.QuantiserLaws.{kept-cut_zero}
 use Rattle.codec_values.proofs.transform.quantiser_laws.Goals as goal
 
 pub returns : goal.returns

@@ -1,6 +1,6 @@
 use Rattle.std.proofs.Common.{◌/◌, ◌^◌, ◌++◌, [], ◌∷◌, reverse, ap, ◌∙◌}
 use Rattle.std.specs.Prelude.{bit_and}
-use Rattle.mast_world.specs.Mq.{coded}
+use Rattle.codec_terms.specs.Mq.{coded}
 use Rattle.mq_coder.proofs.Resume.{holds, begun-none, begun-some}
 use Rattle.mq_coder.proofs.ending.begun.Goals as goal
 use Rattle.mq_coder.proofs.ending.begun.Goals.{then-ending-gt0+in_ok-push, else-ending-gt0}

@@ -1,5 +1,5 @@
 use Rattle.std.proofs.Common.{◌≡◌, reverse, refl, ap, ◌∙◌}
-use Rattle.mast_world.specs.Mq.{last_byte, coded}
+use Rattle.codec_terms.specs.Mq.{last_byte, coded}
 use Rattle.mq_coder.proofs.Resume.{holds, wide-of, shifts-of, within-of, resumed}
 use Rattle.mq_coder.proofs.ending.flushed.Goals as goal
 

@@ -1,7 +1,7 @@
 use Rattle.std.proofs.Common.{◌%◌, ◌≡◌, ◌-◌, ◌*◌, ◌^◌, ◌<◌, reverse, sym, ap, subst, ◌∙◌, arith}
-use Rattle.mast_world.specs.Mq.{behind, last_byte}
+use Rattle.codec_terms.specs.Mq.{behind, last_byte}
 use Rattle.mq_coder.specs.Bytes.{with_last, doublings}
-use Rattle.mq_coder.specs.Ready.{Valid}
+use Rattle.mq_laws.specs.Ready.{Valid}
 use Rattle.mq_coder.proofs.Doublings.{Over, regs-eq, quiet, over, rest-is, taken-back}
 use Rattle.mq_coder.proofs.interval.+doubled.Goals as goal
 

@@ -1,5 +1,5 @@
 use Rattle.std.proofs.Common.{◌≡◌, ◌-◌, ◌*◌, ◌%◌, ◌^◌, ◌<◌, refl, sym, ap, subst, ◌∙◌, arith, mul-le-mul_right, pow_pos, mod-eq_of_lt}
-use Rattle.mast_world.specs.Mq.{byte_in}
+use Rattle.codec_terms.specs.Mq.{byte_in}
 use Rattle.mq_coder.specs.Sources.{reading_of, read_doublings}
 use Rattle.mq_coder.proofs.Inputs.{reading-eq, on-few, shift-sum, shift-narrow, on-more, zero-at}
 use Rattle.mq_coder.proofs.source.+read_on.Goals as goal

@@ -1,5 +1,5 @@
 use Rattle.std.proofs.Common.{◌≡◌, ◌+◌, ◌*◌, ◌%◌, ◌^◌, ◌<◌, ◌≤◌, sym, ap, ap₂, ◌∙◌, arith, mod-eq_of_lt}
-use Rattle.mast_world.specs.Mq.{next_byte}
+use Rattle.codec_terms.specs.Mq.{next_byte}
 use Rattle.mq_coder.specs.Sources.{reading_at}
 use Rattle.mq_coder.proofs.Inputs.{reading, in-whole, in-marker, in-stuffed}
 use Rattle.mq_coder.proofs.source.take_byte.Goals as goal

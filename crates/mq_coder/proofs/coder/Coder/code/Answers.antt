@@ -1,11 +1,11 @@
 use Rattle.std.proofs.Common.{◌≡◌, cond, get_or, ap, sym, ◌∙◌, arith}
 use Rattle.std.specs.Bool.{beq}
 use Rattle.std.proofs.lemmas.Bool.{cond-true, cond-false}
-use Rattle.mast_world.specs.Mq.{coded_one, renormalised}
+use Rattle.codec_terms.specs.Mq.{coded_one, renormalised}
 use Rattle.mq_coder.specs.Bytes.{registers_of}
-use Rattle.mq_coder.specs.Ready.{Valid}
+use Rattle.mq_laws.specs.Ready.{Valid}
 use Rattle.mq_coder.specs.Rows.{state_of}
-use Rattle.mq_coder.proofs.Decisions.{qe-small}
+use Rattle.mq_laws.proofs.Decisions.{qe-small}
 use Rattle.mq_coder.proofs.Coding.{count-of, renormalise-is, shifted-is, code-valid, quiet-code, moved-ready, moved-code, states-set, next-below}
 use Rattle.mq_coder.proofs.coder.Coder.code.Goals as goal
 use Rattle.mq_coder.proofs.coder.Coder.code.Goals.{then-is_mps, else-is_mps}

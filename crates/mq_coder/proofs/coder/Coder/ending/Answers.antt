@@ -1,5 +1,5 @@
 use Rattle.std.proofs.Common.{◌≡◌, length, reverse, ap, ◌∙◌, arith}
-use Rattle.mast_world.specs.Mq.{behind}
+use Rattle.codec_terms.specs.Mq.{behind}
 use Rattle.mq_coder.proofs.Resume.{behind-length}
 use Rattle.mq_coder.proofs.coder.Coder.ending.Goals as goal
 

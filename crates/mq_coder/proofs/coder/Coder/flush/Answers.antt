@@ -1,5 +1,5 @@
 use Rattle.std.proofs.Common.{◌≡◌, map, reverse, ap, ◌∙◌}
-use Rattle.mast_world.specs.Mq.{last_byte, flushed_bytes}
+use Rattle.codec_terms.specs.Mq.{last_byte, flushed_bytes}
 use Rattle.mq_coder.specs.Rows.{state_of}
 use Rattle.mq_coder.proofs.Endings.{flushed-is, codeword-is, codeword-read}
 use Rattle.mq_coder.proofs.coder.Coder.flush.Goals as goal

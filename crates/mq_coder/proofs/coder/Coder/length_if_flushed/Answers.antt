@@ -1,5 +1,5 @@
 use Rattle.std.proofs.Common.{◌≡◌, ◌+◌, map, reverse, ap, ◌∙◌}
-use Rattle.mast_world.specs.Mq.{last_byte}
+use Rattle.codec_terms.specs.Mq.{last_byte}
 use Rattle.mq_coder.specs.Rows.{state_of}
 use Rattle.mq_coder.proofs.Endings.{length-dropped, length-kept}
 use Rattle.mq_coder.proofs.coder.Coder.length_if_flushed.Goals as goal

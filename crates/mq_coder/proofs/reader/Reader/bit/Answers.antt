@@ -2,7 +2,7 @@ use Rattle.std.proofs.Common.{◌≡◌, ◌-◌, ◌/◌, ◌^◌, ◌≤◌, c
 use Rattle.std.specs.Prelude.{nat_lt}
 use Rattle.std.specs.Bool.{beq}
 use Rattle.std.proofs.lemmas.Bool.{cond-true, cond-false}
-use Rattle.mast_world.specs.Mq.{decoded_bit, decoder_after}
+use Rattle.codec_terms.specs.Mq.{decoded_bit, decoder_after}
 use Rattle.mq_coder.specs.Sources.{reading_of}
 use Rattle.mq_coder.proofs.Bits.{row-small, bit-quiet, after-quiet, bit-moved, after-moved, part-low, part-thin}
 use Rattle.mq_coder.proofs.Coding.{states-set, next-below}

@@ -1,0 +1,5 @@
+//! Tests of the codec.
+#![tactic(auto)]
+
+#[cfg(test)]
+mod codewords;

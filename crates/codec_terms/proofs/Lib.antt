@@ -1,0 +1,10 @@
+mod MqValues
+pub mod BandLaws
+pub mod BlockLaws
+pub mod CoefficientLaws
+pub mod ColourLaws
+pub mod CutLaws
+pub mod HeaderLaws
+pub mod OrderLaws
+pub mod QuantiserLaws
+pub mod StreamLaws

@@ -1,0 +1,415 @@
+//! Runs of the commands over devices in memory.
+
+use dcp_commands::{out_name, run, run_make};
+use mast_base::{Bytes, List};
+use mast_world::{FileId, MemFile, MemSink, MemSource, MemVolume};
+use std::alloc::{AllocError, Global};
+use std::process::Abort;
+use std::test::Fail;
+
+const PICTURE: FileId = FileId::Picture(1);
+
+/// The numbers of a project.
+#[derive(Clone, Copy)]
+struct Head {
+    width: u16,
+    height: u16,
+    fps: u8,
+    rate: u16,
+    channels: u8,
+    frames: u32,
+}
+
+const BASE: Head = Head {
+    width: 64,
+    height: 48,
+    fps: 24,
+    rate: 250,
+    channels: 0,
+    frames: 24,
+};
+
+/// All frames from one file.
+const RGB: &str =
+    "\"assets\":[{\"id\":\"a\",\"kind\":\"rgb48\",\"file\":\"a.rgb\"}],\"picture\":[{\"asset\":\"a\",\"at\":0,\"from\":0,\"count\":24}],\"sound\":[]";
+
+/// A feature of two hours with six channels of sound.
+const FEATURE: Head = Head {
+    width: 1998,
+    height: 1080,
+    channels: 6,
+    frames: 172_800,
+    ..BASE
+};
+
+const FILM: &str =
+    "\"assets\":[{\"id\":\"film\",\"kind\":\"rgb48\",\"file\":\"film.rgb\"},{\"id\":\"mix\",\"kind\":\"pcm24\",\"file\":\"mix.pcm\",\"channels\":6}],\"picture\":[{\"asset\":\"film\",\"at\":0,\"from\":0,\"count\":172800}],\"sound\":[{\"asset\":\"mix\",\"at\":0,\"from\":0,\"count\":172800,\"gains\":[[0,0,65536]]}]";
+
+/// At the least rate, so that a frame has at most 26,041 bytes.
+const LEAST: Head = Head {
+    fps: 48,
+    rate: 10,
+    frames: 5,
+    ..BASE
+};
+
+/// A clip over the end of another, which holds its first frame twice.
+const OVERLAP: &str =
+    "\"assets\":[{\"id\":\"a\",\"kind\":\"j2c\",\"file\":\"s\"},{\"id\":\"b\",\"kind\":\"j2c\",\"file\":\"t\"}],\"picture\":[{\"asset\":\"a\",\"at\":0,\"from\":0,\"count\":4},{\"asset\":\"b\",\"at\":2,\"from\":5,\"count\":3,\"hold\":2}],\"sound\":[]";
+
+/// Ready frames that hide a clip of a single file, and a clip of sound.
+const HIDDEN: &str =
+    "\"assets\":[{\"id\":\"a\",\"kind\":\"rgb48\",\"file\":\"a.rgb\"},{\"id\":\"b\",\"kind\":\"j2c\",\"file\":\"s\"},{\"id\":\"c\",\"kind\":\"pcm24\",\"file\":\"c.pcm\",\"channels\":1}],\"picture\":[{\"asset\":\"a\",\"at\":0,\"from\":0,\"count\":2},{\"asset\":\"b\",\"at\":0,\"from\":0,\"count\":2}],\"sound\":[{\"asset\":\"c\",\"at\":0,\"from\":0,\"count\":2,\"gains\":[]}]";
+
+fn text_of(alloc: Global, head: Head, lists: &str) -> Result<String, AllocError> {
+    let Head {
+        width,
+        height,
+        fps,
+        rate,
+        channels,
+        frames,
+    } = head;
+    format!(in alloc;
+        "{{\"title\":\"Test\",\"kind\":\"test\",\"issued\":\"2024-05-01T12:00:00\",\"namespace\":\"6ba7b810-9dad-11d1-80b4-00c04fd430c8\",\"width\":{width},\"height\":{height},\"fps\":{fps},\"rate\":{rate},\"power\":11,\"channels\":{channels},\"frames\":{frames},{lists}}}"
+    )
+}
+
+fn push_file(
+    alloc: Global,
+    files: &mut List<MemFile>,
+    name: &str,
+    size: u64,
+    fill: u8,
+) -> Result<(), AllocError> {
+    files.push(MemFile {
+        name: Bytes::copy_of(alloc, name.as_bytes())?,
+        size,
+        fill,
+        bytes: List::new(alloc),
+    })?;
+    Ok(())
+}
+
+/// The project file alone.
+fn project(alloc: Global, head: Head, lists: &str) -> Result<List<MemFile>, AllocError> {
+    let text = text_of(alloc, head, lists)?;
+    let mut files = List::new(alloc);
+    files.push(MemFile {
+        name: Bytes::copy_of(alloc, b"p.json")?,
+        size: text.len() as u64,
+        fill: 0,
+        bytes: Bytes::from(text.into_bytes()),
+    })?;
+    Ok(files)
+}
+
+/// The project of one file, which has this size.
+fn rgb(alloc: Global, size: u64) -> Result<List<MemFile>, AllocError> {
+    let mut files = project(alloc, BASE, RGB)?;
+    push_file(alloc, &mut files, "a.rgb", size, 0)?;
+    Ok(files)
+}
+
+/// The feature, with sound of this size.
+fn feature(alloc: Global, sound: u64) -> Result<List<MemFile>, AllocError> {
+    let mut files = project(alloc, FEATURE, FILM)?;
+    push_file(alloc, &mut files, "film.rgb", 2_237_248_512_000, 7)?;
+    push_file(alloc, &mut files, "mix.pcm", sound, 0)?;
+    Ok(files)
+}
+
+/// The clips that overlap and their frames, of which the last one has this size.
+fn overlap(alloc: Global, head: Head, last: u64) -> Result<List<MemFile>, AllocError> {
+    let mut files = project(alloc, head, OVERLAP)?;
+    push_file(alloc, &mut files, "s/000000.j2c", 205, 1)?;
+    push_file(alloc, &mut files, "s/000001.j2c", 300, 2)?;
+    push_file(alloc, &mut files, "t/000005.j2c", 1000, 3)?;
+    push_file(alloc, &mut files, "t/000006.j2c", last, 4)?;
+    Ok(files)
+}
+
+fn only(alloc: Global, call: u64) -> Result<List<u64>, AllocError> {
+    let mut calls = List::new(alloc);
+    calls.push(call)?;
+    Ok(calls)
+}
+
+fn words_of(alloc: Global, words: &[&str]) -> Result<Vec<String>, AllocError> {
+    let mut all = Vec::new(alloc);
+    for word in words {
+        all.push(String::from_str(alloc, word)?)?;
+    }
+    Ok(all)
+}
+
+/// What a run of `make` left. The call of source, volume and sink with this number fails; none has
+/// the number 0.
+#[derive(Drop)]
+struct Ran {
+    exit: u8,
+    printed: MemSink,
+    source: MemSource,
+    volume: MemVolume,
+}
+
+fn make_run(
+    alloc: Global,
+    words: &[&str],
+    files: List<MemFile>,
+    failing: [u64; 3],
+) -> Result<Ran, AllocError> {
+    let [in_source, in_volume, in_sink] = failing;
+    let words = words_of(alloc, words)?;
+    let mut source = MemSource::new(files, only(alloc, in_source)?);
+    let mut volume = MemVolume::new(alloc, only(alloc, in_volume)?);
+    let mut printed = MemSink::new(alloc, only(alloc, in_sink)?);
+    let exit = run_make(alloc, &words, &mut source, &mut volume, &mut printed).exit_code();
+    Ok(Ran {
+        exit,
+        printed,
+        source,
+        volume,
+    })
+}
+
+const MAKE: [&str; 3] = ["make", "p.json", "out"];
+
+/// How `make` ends: what it prints, its exit status, and the length of the picture file that it leaves.
+fn expect_make(
+    rt: &impl Abort,
+    alloc: Global,
+    words: &[&str],
+    files: List<MemFile>,
+    printed: &str,
+    exit: u8,
+    picture: usize,
+) -> Result<(), AllocError> {
+    let ran = make_run(alloc, words, files, [0, 0, 0])?;
+    assert_eq!(rt; ran.printed.written(), printed.as_bytes());
+    assert_eq!(rt; ran.exit, exit);
+    assert_eq!(rt; ran.volume.bytes(PICTURE).len(), picture);
+    assert_eq!(rt; ran.volume.put(PICTURE), picture as u64);
+    Ok(())
+}
+
+/// How a command without an output folder ends: what it prints and its exit status.
+fn expect_run(
+    rt: &impl Abort,
+    alloc: Global,
+    words: &[&str],
+    files: List<MemFile>,
+    printed: &str,
+    exit: u8,
+) -> Result<(), AllocError> {
+    let words = words_of(alloc, words)?;
+    let mut source = MemSource::new(files, List::new(alloc));
+    let mut out = MemSink::new(alloc, List::new(alloc));
+    let ended = run(alloc, &words, &mut source, &mut out).exit_code();
+    assert_eq!(rt; out.written(), printed.as_bytes());
+    assert_eq!(rt; ended, exit);
+    Ok(())
+}
+
+/// The key of a picture item.
+const KEY: [u8; 16] = [
+    0x06, 0x0e, 0x2b, 0x34, 0x01, 0x02, 0x01, 0x01, 0x0d, 0x01, 0x03, 0x01, 0x15, 0x01, 0x08, 0x01,
+];
+
+fn push_item(alloc: Global, picture: &mut Vec<u8>, size: u16, fill: u8) -> Result<(), AllocError> {
+    let [high, low] = size.to_be_bytes();
+    picture.extend_from_slice(&KEY)?;
+    picture.extend_from_slice(&[0x83, 0, high, low])?;
+    picture.extend_from_slice(&Vec::from_elem(alloc, fill, usize::from(size))?)
+}
+
+#[test]
+fn frames_are_copied_in_order(rt: HostRuntime) -> Result<(), Fail> {
+    let alloc = rt.alloc();
+    let ran = make_run(alloc, &MAKE, overlap(alloc, LEAST, 26_041)?, [0, 0, 0])?;
+    assert_eq!(rt;
+        ran.printed.written(),
+        b"done: 5 frames, 0 kept\n".as_slice()
+    );
+    assert_eq!(rt; ran.exit, 0);
+    let mut picture = Vec::new(alloc);
+    push_item(alloc, &mut picture, 205, 1)?;
+    push_item(alloc, &mut picture, 300, 2)?;
+    push_item(alloc, &mut picture, 1000, 3)?;
+    push_item(alloc, &mut picture, 1000, 3)?;
+    push_item(alloc, &mut picture, 26_041, 4)?;
+    assert!(rt; ran.volume.bytes(PICTURE) == picture.as_slice());
+    // The frame that is held is read once.
+    let text = text_of(alloc, LEAST, OVERLAP)?.len() as u64;
+    assert_eq!(rt; ran.source.taken(), text + 27_546);
+    Ok(())
+}
+
+#[test]
+fn make_names_what_is_wrong(rt: HostRuntime) -> Result<(), Fail> {
+    let alloc = rt.alloc();
+    let usage = "usage: dcp make|plan|frame|read|trial\n";
+    expect_make(&rt, alloc, &["make", "p.json"], rgb(alloc, 0)?, usage, 2, 0)?;
+    let workers = ["make", "p.json", "out", "--workers", "17"];
+    expect_make(&rt, alloc, &workers, rgb(alloc, 0)?, usage, 2, 0)?;
+    let other = ["make", "q.json", "out"];
+    expect_make(
+        &rt,
+        alloc,
+        &other,
+        rgb(alloc, 0)?,
+        "input missing: q.json\n",
+        4,
+        0,
+    )?;
+    let narrow = project(alloc, Head { width: 31, ..BASE }, RGB)?;
+    expect_make(
+        &rt,
+        alloc,
+        &MAKE,
+        narrow,
+        "project refused: P6 width 31\n",
+        3,
+        0,
+    )?;
+    let none = project(alloc, BASE, RGB)?;
+    expect_make(&rt, alloc, &MAKE, none, "input missing: a.rgb\n", 4, 0)?;
+    let short = "input short: a has 442367 needs 442368\n";
+    expect_make(&rt, alloc, &MAKE, rgb(alloc, 442_367)?, short, 5, 0)?;
+    let mut first = project(alloc, LEAST, OVERLAP)?;
+    push_file(alloc, &mut first, "s/000000.j2c", 205, 1)?;
+    expect_make(
+        &rt,
+        alloc,
+        &MAKE,
+        first,
+        "input missing: s/000001.j2c\n",
+        4,
+        225,
+    )?;
+    let long = overlap(alloc, LEAST, 26_042)?;
+    expect_make(
+        &rt,
+        alloc,
+        &MAKE,
+        long,
+        "bad frame: 4 limit 0 26042\n",
+        12,
+        2585,
+    )?;
+    Ok(())
+}
+
+/// Raw pictures, a black frame, sound.
+#[test]
+fn make_tells_what_is_not_built(rt: HostRuntime) -> Result<(), Fail> {
+    let alloc = rt.alloc();
+    let unbuilt = "unbuilt\n";
+    expect_make(&rt, alloc, &MAKE, rgb(alloc, 442_368)?, unbuilt, 17, 0)?;
+    let black = overlap(alloc, Head { frames: 6, ..LEAST }, 26_041)?;
+    expect_make(&rt, alloc, &MAKE, black, unbuilt, 17, 0)?;
+    let sound = overlap(
+        alloc,
+        Head {
+            channels: 1,
+            ..LEAST
+        },
+        26_041,
+    )?;
+    expect_make(&rt, alloc, &MAKE, sound, unbuilt, 17, 0)?;
+    Ok(())
+}
+
+/// Single files are looked for also where later clips hide them, and where no sound is made.
+#[test]
+fn hidden_inputs_are_wanted(rt: HostRuntime) -> Result<(), Fail> {
+    let alloc = rt.alloc();
+    let head = Head { frames: 2, ..BASE };
+    let mut files = project(alloc, head, HIDDEN)?;
+    push_file(alloc, &mut files, "s/000000.j2c", 205, 1)?;
+    push_file(alloc, &mut files, "s/000001.j2c", 205, 1)?;
+    push_file(alloc, &mut files, "c.pcm", 12_000, 1)?;
+    expect_make(&rt, alloc, &MAKE, files, "input missing: a.rgb\n", 4, 0)?;
+    let mut files = project(alloc, head, HIDDEN)?;
+    push_file(alloc, &mut files, "a.rgb", 36_864, 1)?;
+    expect_make(&rt, alloc, &MAKE, files, "input missing: c.pcm\n", 4, 0)?;
+    let mut files = project(alloc, head, HIDDEN)?;
+    push_file(alloc, &mut files, "a.rgb", 36_864, 1)?;
+    push_file(alloc, &mut files, "c.pcm", 11_999, 1)?;
+    expect_make(
+        &rt,
+        alloc,
+        &MAKE,
+        files,
+        "input short: c has 11999 needs 12000\n",
+        5,
+        0,
+    )?;
+    Ok(())
+}
+
+#[test]
+fn plan_shows_a_run_before_it_starts(rt: HostRuntime) -> Result<(), Fail> {
+    let alloc = rt.alloc();
+    let plan = ["plan", "p.json"];
+    let lines =
+        "frames 172800\nsize 1998x1080\nfps 24\nlimit 1302083\ncomponent 1041666\nfresh 172800\nblack 0\n";
+    expect_run(&rt, alloc, &plan, feature(alloc, 6_220_800_000)?, lines, 0)?;
+    let short = "input short: mix has 6220799999 needs 6220800000\n";
+    expect_run(&rt, alloc, &plan, feature(alloc, 6_220_799_999)?, short, 5)?;
+    let lines = "frames 6\nsize 64x48\nfps 48\nlimit 26041\ncomponent 20833\nfresh 5\nblack 1\n";
+    let black = project(alloc, Head { frames: 6, ..LEAST }, OVERLAP)?;
+    expect_run(&rt, alloc, &plan, black, lines, 0)?;
+    let narrow = project(alloc, Head { width: 31, ..BASE }, RGB)?;
+    expect_run(
+        &rt,
+        alloc,
+        &plan,
+        narrow,
+        "project refused: P6 width 31\n",
+        3,
+    )?;
+    let none = project(alloc, BASE, RGB)?;
+    expect_run(&rt, alloc, &plan, none, "input missing: a.rgb\n", 4)?;
+    let usage = "usage: dcp make|plan|frame|read|trial\n";
+    expect_run(&rt, alloc, &["plan"], rgb(alloc, 0)?, usage, 2)?;
+    expect_run(&rt, alloc, &["frame", "p.json"], rgb(alloc, 0)?, usage, 2)?;
+    Ok(())
+}
+
+fn expect_fault(
+    rt: &impl Abort,
+    alloc: Global,
+    failing: [u64; 3],
+    printed: &str,
+    exit: u8,
+) -> Result<(), AllocError> {
+    let ran = make_run(alloc, &MAKE, overlap(alloc, LEAST, 26_041)?, failing)?;
+    assert_eq!(rt; ran.printed.written(), printed.as_bytes());
+    assert_eq!(rt; ran.exit, exit);
+    Ok(())
+}
+
+/// Source, volume and sink fail at each of their calls in turn, and not behind the last one.
+#[test]
+fn a_fault_is_a_devices(rt: HostRuntime) -> Result<(), Fail> {
+    let alloc = rt.alloc();
+    for call in 1..11u64 {
+        expect_fault(&rt, alloc, [call, 0, 0], "source fault\n", 7)?;
+    }
+    for call in 1..8u64 {
+        expect_fault(&rt, alloc, [0, call, 0], "store fault\n", 8)?;
+    }
+    expect_fault(&rt, alloc, [0, 0, 1], "", 9)?;
+    expect_fault(&rt, alloc, [11, 8, 2], "done: 5 frames, 0 kept\n", 0)?;
+    Ok(())
+}
+
+#[test]
+fn names_the_output_folder(rt: HostRuntime) -> Result<(), Fail> {
+    let alloc = rt.alloc();
+    let name = out_name(alloc, &words_of(alloc, &MAKE)?)?;
+    assert!(rt; name.is_some_and(|name| name.as_slice() == b"out".as_slice()));
+    assert!(rt; out_name(alloc, &words_of(alloc, &["make", "p.json", "-o"])?)?.is_none());
+    Ok(())
+}
