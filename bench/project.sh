@@ -6,22 +6,17 @@ set -euo pipefail
 top=$(cd "$(dirname "$0")/.." && pwd)
 work=$(mktemp -d)
 trap 'rm -rf "$work"' EXIT
+"$top/.ci/copy-crates" "$work" film_plan
 mkdir -p "$work/crates/large/src"
-for crate in mast_world film_project film_timeline film_plan; do
-    mkdir -p "$work/crates/$crate"
-    for part in src specs proofs; do
-        if [ -d "$top/crates/$crate/$part" ]; then cp -r "$top/crates/$crate/$part" "$work/crates/$crate/"; fi
-    done
-done
-grep -E '^(mast_world|film_project|film_timeline|film_plan):' "$top/crates.txt" > "$work/crates.txt"
-echo 'large: mast_world film_project film_timeline film_plan serde_json io anyhow' >> "$work/crates.txt"
-cp "$top/HANDLES" "$work/HANDLES"
+echo 'large: film_project film_reader film_printer film_timeline film_plan serde_json io anyhow' >> "$work/crates.txt"
 cat > "$work/crates/large/src/main.rt" <<'RT'
 //! Reads the file `project.json`, and prints how long its parts took.
 #![tactic(auto)]
 
 use film_plan::plan;
-use film_project::{Project, project_text, read_project};
+use film_printer::project_text;
+use film_project::Project;
+use film_reader::read_project;
 use film_timeline::cells;
 use serde_json::Value;
 use std::fs;

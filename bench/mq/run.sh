@@ -6,18 +6,11 @@ top=$(cd "$(dirname "$0")/../.." && pwd)
 kit=$(dirname "$(dirname "$(readlink -f "$(command -v rt)")")")
 work=$(mktemp -d)
 trap 'rm -rf "$work"' EXIT
-mkdir "$work/crates"
-for crate in mast_world mq_coder; do
-    cp -r "$top/crates/$crate" "$work/crates/$crate"
-done
+"$top/.ci/copy-crates" "$work" mq_coder
 mkdir -p "$work/crates/mq_bench/src" "$work/crates/mq_bench/specs"
 : > "$work/crates/mq_bench/specs/Lib.antt"
 cp "$top/bench/mq/wrappers.txt" "$work/crates/mq_bench/src/lib.rt"
-cat > "$work/crates.txt" <<LIST
-mast_world:
-mq_coder: mast_world
-mq_bench staticlib: mq_coder mast_world
-LIST
+echo "mq_bench staticlib: mast_base mq_coder" >> "$work/crates.txt"
 (cd "$work/crates/mq_bench" && rt lib)
 gcc -O2 -o "$work/main" "$top/bench/mq/main.c" "$work/crates/mq_bench/out/libmq_bench.a" \
     "${KIT:-$kit}/c/liblibc_c.a" "${KIT:-$kit}/c/libos_c.a"

@@ -3,13 +3,14 @@ use Rattle.std.proofs.Common.{◌≡◌, ℕ, ◌+◌, ◌≤◌, Bool, true, fa
 use Rattle.std.specs.Prelude.{IsFalse, IsSome, unwrap_or}
 use Rattle.film_project.specs.Facts.{ProjectFacts}
 use Rattle.make_engine.proofs.Outcomes.{not_some}
-use Rattle.make_engine.specs.Package.{Files, frames_size, is_built, picture_of}
+use Rattle.make_engine.specs.Package.{frames_size, is_built, picture_of}
+use Rattle.mast_world.specs.Content.{Files}
 use Rattle.make_engine.specs.declared.outcome.BadWhy.{BadWhy}
 use Rattle.make_engine.specs.declared.outcome.MakeEnd.{MakeEnd}
 use Rattle.make_engine.specs.declared.outcome.MakeEnd.TheVariants as make_end
 use Rattle.make_engine.specs.declared.outcome.Report.{Report}
 use Rattle.mast_world.specs.Count.{HasRisen}
-use Rattle.dcp_commands.specs.Inputs.{planned}
+use Rattle.film_inputs.specs.Inputs.{planned}
 use Rattle.dcp_commands.specs.Make.{IsEarly, checked, frames_of, input_size, make_status, package_of, with_plan}
 use Rattle.dcp_commands.specs.Words.{MakeWords, make_words}
 use Rattle.dcp_commands.specs.declared.status.Status.{Status}

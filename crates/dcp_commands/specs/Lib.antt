@@ -1,4 +1,3 @@
-pub mod Inputs
 pub mod Line
 pub mod Make
 pub mod Plan

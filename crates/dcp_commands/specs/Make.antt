@@ -3,15 +3,16 @@ use Rattle.std.specs.Prelude.{◌≡◌, ◌⊎◌, ℕ, ◌+◌, List, [], leng
 use Rattle.std.specs.Option.{option_map_or}
 use Rattle.film_project.specs.Facts.{ProjectFacts}
 use Rattle.make_engine.specs.Causes.{IsBadFrame, IsMissingFrame}
-use Rattle.make_engine.specs.Package.{Files, frames_size, is_built, picture_of}
+use Rattle.make_engine.specs.Package.{frames_size, is_built, picture_of}
+use Rattle.mast_world.specs.Content.{Files}
 use Rattle.make_engine.specs.declared.outcome.BadWhy.{BadWhy}
 use Rattle.make_engine.specs.declared.outcome.MakeEnd.{MakeEnd}
 use Rattle.make_engine.specs.declared.outcome.MakeEnd.TheVariants as make_end
-use Rattle.dcp_commands.specs.Inputs.{planned}
+use Rattle.film_inputs.specs.Inputs.{planned}
 use Rattle.dcp_commands.specs.Line.{done_text}
 use Rattle.dcp_commands.specs.Words.{MakeWords, make_words}
-use Rattle.dcp_commands.specs.declared.inputs.PlanEnd.{PlanEnd}
-use Rattle.dcp_commands.specs.declared.inputs.PlanEnd.TheVariants as plan_end
+use Rattle.film_inputs.specs.declared.inputs.PlanEnd.{PlanEnd}
+use Rattle.film_inputs.specs.declared.inputs.PlanEnd.TheVariants as plan_end
 use Rattle.dcp_commands.specs.declared.status.Status.{Status}
 use Rattle.dcp_commands.specs.declared.status.Status.TheVariants.{Done, Usage, ProjectRefused, InputMissing, InputShort, SourceFault, StoreFault, SinkFault, NoMemory, BadFrame, Unbuilt}
 

@@ -5,12 +5,12 @@ use Rattle.film_plan.specs.Plan.{limits_of}
 use Rattle.film_project.specs.Facts.{ProjectFacts}
 use Rattle.film_timeline.specs.Timeline.{cells_of, fresh_cells, is_black}
 use Rattle.film_timeline.specs.declared.cell.Cell.{Cell}
-use Rattle.make_engine.specs.Package.{Files}
+use Rattle.mast_world.specs.Content.{Files}
 use Rattle.mast_base.specs.declared.limits.Limits.{Limits}
-use Rattle.dcp_commands.specs.Inputs.{planned}
+use Rattle.film_inputs.specs.Inputs.{planned}
 use Rattle.dcp_commands.specs.Make.{plan_status}
 use Rattle.dcp_commands.specs.Words.{plan_words}
-use Rattle.dcp_commands.specs.declared.inputs.PlanEnd.{PlanEnd}
+use Rattle.film_inputs.specs.declared.inputs.PlanEnd.{PlanEnd}
 use Rattle.dcp_commands.specs.declared.status.Status.{Status}
 use Rattle.dcp_commands.specs.declared.status.Status.TheVariants.{Done, Usage, ProjectRefused, InputMissing, InputShort, SourceFault, NoMemory}
 

@@ -5,11 +5,11 @@ ghost use Rattle.dcp_commands.specs.Make.{Answers};
 ghost use Rattle.dcp_commands.specs.Plan.{IsPlanEnd, IsPlanText, checked_plan, status_in};
 ghost use Rattle.dcp_commands.specs.Words.{plan_words};
 
-use crate::inputs::read_plan;
 use crate::line::print;
 use crate::plan_text::plan_text;
 use crate::status::Status;
 use crate::words::plan_words;
+use film_inputs::read_plan;
 use mast_base::Bytes;
 use mast_world::{Sink, Source};
 use std::alloc::Global;

@@ -1,7 +1,6 @@
 //! The commands of the programs: their words, what they do, and what they print.
 #![tactic(auto)]
 
-mod inputs;
 mod inspect;
 mod line;
 mod make;

@@ -6,7 +6,7 @@ ghost use Rattle.dcp_commands.specs.Line.{done_text, why_text, status_text, line
 ghost use Rattle.dcp_commands.specs.Make.{Answers, status_of};
 
 use crate::status::Status;
-use film_project::refusal_text;
+use film_printer::refusal_text;
 use make_engine::{BadWhy, Report};
 use mast_base::{Bytes, NoMemory};
 use mast_world::Sink;

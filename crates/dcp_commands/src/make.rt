@@ -8,10 +8,10 @@ ghost use Rattle.dcp_commands.specs.Line.{IsPrinted};
 ghost use Rattle.dcp_commands.specs.Make.{Answers, IsBadInProject, IsEarly, IsMadeText, IsMissingInProject, checked, input_size, package_of, status_of};
 ghost use Rattle.dcp_commands.specs.Words.{make_words};
 
-use crate::inputs::read_plan;
 use crate::line::{done_text, print};
 use crate::status::Status;
 use crate::words::make_words;
+use film_inputs::read_plan;
 use make_engine::{Options, make_alone};
 use mast_base::Bytes;
 use mast_world::{Sink, Source, Volume};

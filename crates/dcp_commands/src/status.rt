@@ -1,4 +1,4 @@
-use crate::inputs::PlanEnd;
+use film_inputs::PlanEnd;
 use film_project::ProjectRefusal;
 use make_engine::{BadWhy, MakeEnd};
 use mast_base::{Bytes, NoMemory};

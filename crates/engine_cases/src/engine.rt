@@ -1,7 +1,7 @@
 //! Runs over devices in memory.
 
 use film_plan::{Plan, plan};
-use film_project::read_project;
+use film_reader::read_project;
 use make_engine::{MakeEnd, Options, Report, make_alone};
 use mast_base::{Bytes, List};
 use mast_world::{FileId, MemFile, MemSource, MemVolume};

@@ -1,7 +1,7 @@
 //! Plans of small projects.
 
 use film_plan::{Plan, PlanRefusal, plan};
-use film_project::read_project;
+use film_reader::read_project;
 use mast_base::Limits;
 use std::alloc::Global;
 use std::process::Abort;

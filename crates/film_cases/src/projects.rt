@@ -1,6 +1,7 @@
 //! Texts of projects, and what is told of each.
 
-use film_project::{project_text, read_project, refusal_text};
+use film_printer::{project_text, refusal_text};
+use film_reader::read_project;
 use mast_base::{Bytes, NoMemory};
 use std::alloc::{AllocError, Global};
 use std::process::Abort;

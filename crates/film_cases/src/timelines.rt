@@ -1,6 +1,6 @@
 //! A clip over another, as they are shown.
 
-use film_project::read_project;
+use film_reader::read_project;
 use film_timeline::{Cell, black_count, cells, fresh_count, is_repeat};
 use std::test::Fail;
 

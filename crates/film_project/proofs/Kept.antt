@@ -3,7 +3,7 @@ use Rattle.std.proofs.Common.{◌≡◌, ℕ, zero, suc, ◌+◌, ◌<◌, ◌�
 use Rattle.std.specs.Option.{option_or}
 use Rattle.std.proofs.lemmas.Bool.Decides.{nat_tests}
 use Rattle.film_project.specs.Texts.{first_place, keeps, offends, short_place, least_length, meaning_place}
-use Rattle.film_project.specs.declared.texts.TextRule.{TextRule}
+use Rattle.film_project.specs.declared.text_rule.TextRule.{TextRule}
 
 no_place : (b : Bool) (i : ℕ) (r : Option ℕ) → cond b (Some i) r ≡ None → (b ≡ false) × (r ≡ None)
 no_place true i r e = absurd (cc)

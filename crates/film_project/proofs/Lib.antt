@@ -1,13 +1,3 @@
-pub mod Walks
 pub mod Ids
 pub mod Kept
-pub mod Namespaces
-pub mod Whole
-pub mod Ascii
-pub mod Back
-pub mod BackClips
-pub mod BackTop
-pub mod Shape
-pub mod Size
-pub mod Sizes
-pub mod Printed
+pub mod Walks

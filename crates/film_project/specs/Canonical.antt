@@ -4,7 +4,7 @@ use Rattle.serde_json.specs.Data.{Data, number, unsigned, string, array, object,
 use Rattle.serde_json.specs.View.{items_of}
 use Rattle.serde_json.specs.Written.{compact_text}
 use Rattle.uuid.specs.Text.{hyphenated_text, lower}
-use Rattle.film_project.specs.Facts.{AssetFacts, PictureFacts, GainFacts, SoundFacts, ProjectFacts}
+use Rattle.film_project.specs.Facts.{no_asset, AssetFacts, PictureFacts, GainFacts, SoundFacts, ProjectFacts}
 use Rattle.film_project.specs.declared.asset.AssetKind.{AssetKind}
 use Rattle.film_project.specs.declared.asset.AssetKind.TheVariants.{Rgb48, Ppm, J2c, Pcm24}
 
@@ -26,9 +26,6 @@ asset_data a =
     (member (codes "file") (string a.file)
     (member (codes "id") (string a.id)
     (member (codes "kind") (string (kind_word a.kind)) no_members))))
-
-abbrev pub no_asset : AssetFacts
-no_asset = record { id = []; kind = Rgb48; file = []; channels = 0 }
 
 abbrev pub id_at : List AssetFacts → ℕ → List ℕ
 id_at assets i = (slice_index_or assets i no_asset).id

@@ -1,6 +1,7 @@
 -- The plain values of a project.
-use Rattle.std.specs.Prelude.{ℕ, List}
+use Rattle.std.specs.Prelude.{ℕ, List, [], slice_index_or}
 use Rattle.film_project.specs.declared.asset.AssetKind.{AssetKind}
+use Rattle.film_project.specs.declared.asset.AssetKind.TheVariants.{Rgb48}
 
 pub record AssetFacts : Type 0 where
   pub id : List ℕ
@@ -43,3 +44,11 @@ pub record ProjectFacts : Type 0 where
   pub assets : List AssetFacts
   pub picture : List PictureFacts
   pub sound : List SoundFacts
+
+-- what stands for an asset that isn't there
+abbrev pub no_asset : AssetFacts
+no_asset = record { id = []; kind = Rgb48; file = []; channels = 0 }
+
+-- the asset at this place of the project's list
+abbrev pub asset_at : ProjectFacts → ℕ → AssetFacts
+asset_at project place = slice_index_or project.assets place no_asset

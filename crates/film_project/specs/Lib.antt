@@ -1,14 +1,11 @@
 pub mod Accepts
 pub mod Answers
 pub mod Canonical
-pub mod Clips
 pub mod Facts
 pub mod Fits
-pub mod Gains
 pub mod Members
 pub mod Names
 pub mod Objects
 pub mod Plain
 pub mod Refusals
 pub mod Texts
-pub mod Top

@@ -7,7 +7,7 @@ use Rattle.film_project.specs.Facts.{GainFacts}
 use Rattle.film_project.specs.Names.{member_name, item_name}
 use Rattle.film_project.specs.Texts.{text_place}
 use Rattle.film_project.specs.declared.place.Place.{Place}
-use Rattle.film_project.specs.declared.texts.TextRule.{TextRule}
+use Rattle.film_project.specs.declared.text_rule.TextRule.{TextRule}
 use Rattle.film_project.specs.declared.refusal.ProjectRefusal.{ProjectRefusal}
 use Rattle.film_project.specs.declared.refusal.ProjectRefusal.TheVariants.{MissingMember, WrongKind, OutOfRange, BadText, TooLong}
 

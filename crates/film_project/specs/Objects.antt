@@ -10,7 +10,7 @@ use Rattle.film_project.specs.Members.{Member, Kind, text, number, frame_rate, f
 use Rattle.film_project.specs.declared.asset.AssetKind.{AssetKind}
 use Rattle.film_project.specs.declared.asset.AssetKind.TheVariants.{Rgb48, Ppm, J2c, Pcm24}
 use Rattle.film_project.specs.declared.place.Place.{Place}
-use Rattle.film_project.specs.declared.texts.TextRule.TheVariants as rule
+use Rattle.film_project.specs.declared.text_rule.TextRule.TheVariants as rule
 use Rattle.film_project.specs.declared.refusal.ProjectRefusal.{ProjectRefusal}
 use Rattle.film_project.specs.declared.refusal.ProjectRefusal.TheVariants.{NotObject, UnknownMember}
 

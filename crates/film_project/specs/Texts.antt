@@ -4,8 +4,8 @@ use Rattle.std.specs.Option.{option_or}
 use Rattle.std.specs.List.{list_any}
 use Rattle.std.specs.Str.{bytes_eq}
 use Rattle.jiff.specs.Words.{parse_datetime}
-use Rattle.film_project.specs.declared.texts.TextRule.{TextRule}
-use Rattle.film_project.specs.declared.texts.TextRule.TheVariants.{Title, ContentKind, Issued, Namespace, Id, AssetKind, File, AnyText}
+use Rattle.film_project.specs.declared.text_rule.TextRule.{TextRule}
+use Rattle.film_project.specs.declared.text_rule.TextRule.TheVariants.{Title, ContentKind, Issued, Namespace, Id, AssetKind, File, AnyText}
 
 -- 20 to 7E (hexadecimal)
 abbrev pub is_printable : ℕ → Bool

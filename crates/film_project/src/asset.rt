@@ -1,7 +1,7 @@
 ghost use Rattle.std.specs.Prelude.{◌≡◌, ◌≢◌, ◌≤◌, IsTrue};
 ghost use Rattle.film_project.specs.Texts.{keeps};
 ghost use Rattle.film_project.specs.declared.asset.AssetKind.TheVariants.{Pcm24};
-ghost use Rattle.film_project.specs.declared.texts.TextRule.TheVariants.{Id, File};
+ghost use Rattle.film_project.specs.declared.text_rule.TextRule.TheVariants.{Id, File};
 
 use mast_base::Bytes;
 

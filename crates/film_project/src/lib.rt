@@ -1,26 +1,16 @@
-//! The project file: read, refused by name and printed canonically.
+//! A film project: its types, which keep each rule of the project file, and the definitions of its text.
 #![tactic(auto)]
 
 mod asset;
-mod assets;
-mod canonical;
 mod clip;
-mod clips;
-mod gains;
-mod line;
-mod member;
-mod object;
 mod place;
 mod project;
-mod read;
 mod refusal;
-mod texts;
+mod text_rule;
 
 pub use asset::{Asset, AssetKind};
-pub use canonical::project_text;
 pub use clip::{Gain, PictureClip, SoundClip};
-pub use line::refusal_text;
+pub use place::Place;
 pub use project::Project;
-pub use read::read_project;
 pub use refusal::ProjectRefusal;
-pub use texts::TextRule;
+pub use text_rule::TextRule;

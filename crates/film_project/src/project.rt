@@ -2,7 +2,7 @@ ghost use Rattle.std.specs.Prelude.{◌≡◌, ◌≢◌, ◌≤◌, ◌<◌, le
 ghost use Rattle.film_project.specs.Fits.{PictureFits, SoundFits};
 ghost use Rattle.film_project.specs.Members.{is_frame_rate};
 ghost use Rattle.film_project.specs.Texts.{keeps};
-ghost use Rattle.film_project.specs.declared.texts.TextRule.TheVariants.{Title, ContentKind, Issued};
+ghost use Rattle.film_project.specs.declared.text_rule.TextRule.TheVariants.{Title, ContentKind, Issued};
 
 use crate::asset::Asset;
 use crate::clip::{PictureClip, SoundClip};

@@ -23,7 +23,8 @@ use Rattle.mast_world.specs.Count.{counted}
 use Rattle.make_engine.specs.Causes.{IsBadFrame, IsMissingFrame, ShowsFile}
 use Rattle.make_engine.specs.Engine.{HasCopied, IsInFile, IsItemAt, IsTooLong, ReadsItem, TakesItem}
 use Rattle.make_engine.specs.Item.{item}
-use Rattle.make_engine.specs.Package.{Files, codestream, is_built, is_ready, value_of, values_of}
+use Rattle.make_engine.specs.Package.{codestream, is_built, is_ready, value_of, values_of}
+use Rattle.mast_world.specs.Content.{Files}
 use Rattle.make_engine.specs.declared.outcome.BadWhy.{BadWhy}
 
 -- whether frame f repeats the one before it

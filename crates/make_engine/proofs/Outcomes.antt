@@ -6,7 +6,7 @@ use Rattle.std.specs.List.{flat_map}
 use Rattle.std.specs.Prelude.{option_and_then, slice_get, unwrap_or, IsSome}
 use Rattle.film_plan.proofs.Cells.{length-cells_of}
 use Rattle.film_plan.specs.Plan.{limits_of}
-use Rattle.film_project.specs.Facts.{ProjectFacts}
+use Rattle.film_project.specs.Facts.{ProjectFacts, asset_at}
 use Rattle.film_project.specs.declared.asset.AssetKind.{AssetKind}
 use Rattle.film_project.specs.declared.asset.AssetKind.TheVariants.{Rgb48, Ppm, J2c, Pcm24}
 use Rattle.film_timeline.specs.Timeline.{cells_of, fresh_cells}
@@ -15,7 +15,8 @@ use Rattle.mast_world.specs.Count.{counted}
 use Rattle.make_engine.specs.Causes.{IsBadFrame, IsMissingFrame, ShowsFile}
 use Rattle.make_engine.specs.Engine.{HasCopied}
 use Rattle.make_engine.specs.Item.{item}
-use Rattle.make_engine.specs.Package.{Files, asset_at, codestream, frame_name, frames_size, picture_of, shown_of, value_of, values_of}
+use Rattle.make_engine.specs.Package.{codestream, frame_name, frames_size, picture_of, shown_of, value_of, values_of}
+use Rattle.mast_world.specs.Content.{Files}
 use Rattle.make_engine.specs.declared.outcome.BadWhy.{BadWhy}
 use Rattle.make_engine.specs.declared.outcome.MakeEnd.{MakeEnd}
 use Rattle.make_engine.specs.declared.outcome.MakeEnd.TheVariants.{InputMissing, BadFrame, SourceFault, StoreFault, Unbuilt, NoMemory}

@@ -1,11 +1,12 @@
 -- Why no package was made.
 use Rattle.std.specs.Prelude.{◌≡◌, ℕ, ◌<◌, List, length, take, slice_get, Some, None, option_map, IsSome}
 use Rattle.film_plan.specs.Plan.{limits_of}
-use Rattle.film_project.specs.Facts.{ProjectFacts}
+use Rattle.film_project.specs.Facts.{ProjectFacts, asset_at}
 use Rattle.film_timeline.specs.Timeline.{cells_of, IsFresh}
 use Rattle.film_timeline.specs.declared.cell.Cell.TheVariants.{Frame}
 use Rattle.mast_world.specs.declared.volume.FileId.{FileId}
-use Rattle.make_engine.specs.Package.{Files, asset_at, frame_name, values_of}
+use Rattle.make_engine.specs.Package.{frame_name, values_of}
+use Rattle.mast_world.specs.Content.{Files}
 use Rattle.make_engine.specs.declared.outcome.BadWhy.{BadWhy}
 use Rattle.make_engine.specs.declared.outcome.BadWhy.TheVariants.{Limit}
 

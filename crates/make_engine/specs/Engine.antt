@@ -1,14 +1,15 @@
 -- What the engine does with one frame.
 use Rattle.std.specs.Prelude.{◌≡◌, ℕ, ◌<◌, ◌↔◌, ◌-◌, Bool, IsTrue, List, length, take, sum_by, if◌then◌else◌, slice_get, Option, Some, option_map, option_and_then}
 use Rattle.std.specs.List.{flat_map}
-use Rattle.film_project.specs.Facts.{ProjectFacts}
+use Rattle.film_project.specs.Facts.{ProjectFacts, asset_at}
 use Rattle.film_project.specs.declared.asset.AssetKind.TheVariants.{J2c}
 use Rattle.film_timeline.specs.Timeline.{cells_of, fresh_cells}
 use Rattle.film_timeline.specs.declared.cell.Cell.{Cell}
 use Rattle.film_timeline.specs.declared.cell.Cell.TheVariants.{Frame}
 use Rattle.mast_world.specs.Count.{counted}
 use Rattle.make_engine.specs.Item.{item}
-use Rattle.make_engine.specs.Package.{Files, asset_at, codestream, frame_name, value_of, values_of}
+use Rattle.make_engine.specs.Package.{codestream, frame_name, value_of, values_of}
+use Rattle.mast_world.specs.Content.{Files}
 use Rattle.make_engine.specs.declared.outcome.BadWhy.{BadWhy}
 use Rattle.make_engine.specs.declared.outcome.BadWhy.TheVariants.{Limit}
 

@@ -3,25 +3,18 @@ use Rattle.std.specs.Prelude.{ℕ, ◌-◌, ◌==◌, ◌&&◌, Bool, true, fals
 use Rattle.std.specs.Fmt.{decimal}
 use Rattle.std.specs.List.{flat_map, list_all}
 use Rattle.film_plan.specs.Plan.{limits_of}
-use Rattle.film_project.specs.Canonical.{no_asset}
-use Rattle.film_project.specs.Facts.{AssetFacts, ProjectFacts}
+use Rattle.film_project.specs.Facts.{AssetFacts, ProjectFacts, asset_at}
 use Rattle.film_project.specs.declared.asset.AssetKind.{AssetKind}
 use Rattle.film_project.specs.declared.asset.AssetKind.TheVariants.{Rgb48, Ppm, J2c, Pcm24}
 use Rattle.film_timeline.specs.Timeline.{cells_of, fresh_cells}
 use Rattle.film_timeline.specs.declared.cell.Cell.{Cell}
 use Rattle.film_timeline.specs.declared.cell.Cell.TheVariants.{Black, Frame}
+use Rattle.mast_world.specs.Content.{Files}
 use Rattle.make_engine.specs.Item.{item}
-
--- what the files of a source contain, by their names
-abbrev pub Files : Type 0
-Files = List ℕ → Option (List ℕ)
 
 -- a number in at least six digits
 abbrev pub six_digits : ℕ → List ℕ
 six_digits n = replicate (6 - length (decimal n)) 48 ++ decimal n
-
-abbrev pub asset_at : ProjectFacts → ℕ → AssetFacts
-asset_at project place = slice_index_or project.assets place no_asset
 
 -- the file of a frame that lies ready in an asset's folder
 abbrev pub frame_name : AssetFacts → ℕ → List ℕ

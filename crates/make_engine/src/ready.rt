@@ -2,7 +2,8 @@ ghost use Rattle.std.specs.Prelude.{◌≡◌, IfSome, IfNone, IfOk, false};
 ghost use Rattle.std.specs.List.{list_all};
 ghost use Rattle.film_project.specs.Plain.{asset_facts, project_facts};
 ghost use Rattle.film_project.specs.declared.asset.AssetKind.TheVariants.{J2c};
-ghost use Rattle.make_engine.specs.Package.{asset_at, is_built, is_j2c, is_ready};
+ghost use Rattle.make_engine.specs.Package.{is_built, is_j2c, is_ready};
+ghost use Rattle.film_project.specs.Facts.{asset_at};
 ghost use Rattle.make_engine.specs.Engine.{IsInFile};
 
 use crate::name::frame_name;

@@ -1,6 +1,10 @@
 -- What files contain, as lists of bytes.
 use Rattle.std.specs.Prelude.{ℕ, ◌+◌, ◌≤◌, List, [], ◌++◌, length, take, drop, Option, unwrap_or, IsSomeAnd}
 
+-- what the files of a source contain, by their names
+abbrev pub Files : Type 0
+Files = List ℕ → Option (List ℕ)
+
 -- n bytes from a place on
 abbrev pub part : List ℕ → ℕ → ℕ → List ℕ
 part bytes at n = take n (drop at bytes)

@@ -8,7 +8,7 @@ use Rattle.make_engine.specs.Package.{frames_size, is_built}
 use Rattle.make_engine.specs.declared.outcome.MakeEnd.TheVariants as make_end
 use Rattle.make_engine.specs.declared.outcome.Report.{Report}
 use Rattle.mast_world.specs.Count.{counted}
-use Rattle.dcp_commands.specs.Inputs.{planned}
+use Rattle.film_inputs.specs.Inputs.{planned}
 use Rattle.dcp_commands.specs.Line.{done_text}
 use Rattle.dcp_commands.specs.Make.{IsEarly, make_status, status_of}
 use Rattle.dcp_commands.specs.Words.{MakeWords}

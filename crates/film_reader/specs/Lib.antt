@@ -1,0 +1,3 @@
+pub mod Clips
+pub mod Gains
+pub mod Top
