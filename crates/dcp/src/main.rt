@@ -2,8 +2,8 @@
 #![tactic(auto)]
 
 use dcp_commands::{Status, out_name, run, run_make};
-use mast_real::{FolderSource, FolderVolume, StdSink};
 use mast_base::Bytes;
+use mast_real::{FolderSource, FolderVolume, StdSink};
 use std::alloc::{AllocError, Global};
 use std::io::ErrorKind;
 use std::process::ExitCode;

@@ -239,11 +239,7 @@ fn find_sizes<S: Source>(
 }
 
 /// Reads the project file of this name, looks for the single files that its clips name, and plans it.
-pub fn read_plan<S: Source>(
-    alloc: Global,
-    source: &mut S,
-    name: &[u8],
-) -> Result<Plan, PlanEnd>
+pub fn read_plan<S: Source>(alloc: Global, source: &mut S, name: &[u8]) -> Result<Plan, PlanEnd>
     ensures planned { S.tells → IfOk result (λ plan. planned (S.file source.old) name.now ≡ Ok (project_facts plan.project)) }
     ensures ended { (end : PlanEnd) → result ≡ Err end → S.tells → Ends end (planned (S.file source.old) name.now) }
     ensures taken { S.tells

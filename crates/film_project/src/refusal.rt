@@ -48,8 +48,8 @@ impl From<AllocError> for ProjectRefusal {
 
     ghost from_gives = { λ _ e. e ≡ NoMemory };
 
-    fn from(_error: AllocError) -> Self {
-        ProjectRefusal::NoMemory
+    fn from(error: AllocError) -> Self {
+        ProjectRefusal::from(NoMemory::from(error))
     }
 }
 
@@ -59,7 +59,7 @@ impl<T: Drop> From<AllocFailed<T>> for ProjectRefusal {
 
     ghost from_gives = { λ _ e. e ≡ NoMemory };
 
-    fn from(_error: AllocFailed<T>) -> Self {
-        ProjectRefusal::NoMemory
+    fn from(error: AllocFailed<T>) -> Self {
+        ProjectRefusal::from(NoMemory::from(error))
     }
 }
