@@ -11,7 +11,7 @@ use Rattle.film_project.specs.declared.project.Project.{Project}
 use Rattle.film_printer.proofs.BackTop.{project_ok, project_back}
 use Rattle.film_printer.proofs.Shape.{project_whole, project_deep}
 use Rattle.film_printer.proofs.Sizes.{project_size}
-use Rattle.film_reader.proofs.Whole.{accepts-read}
+use Rattle.film_project.proofs.Whole.{accepts-read}
 
 -- the text of a value that is the project's
 pub printed : (text : List ℕ) (d : Data) (p : Project) → d ≡ project_data (project_facts p) → (has_float d ≡ false → text ≡ compact_text d)

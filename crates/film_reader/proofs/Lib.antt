@@ -1,2 +1,1 @@
 pub mod Namespaces
-pub mod Whole

@@ -2,7 +2,7 @@ use Rattle.std.proofs.Common.{sym, ◌∙◌, arith, true≢false}
 use Rattle.serde_json.specs.View.{view}
 use Rattle.film_project.specs.Accepts.{project_fault, project_in}
 use Rattle.film_project.specs.Plain.{project_facts}
-use Rattle.film_reader.proofs.Whole.{accepts-read, accepts-refused, IsAnswer-parts}
+use Rattle.film_project.proofs.Whole.{accepts-read, accepts-refused, IsAnswer-parts}
 use Rattle.film_reader.proofs.read.read_project.Goals as goal
 
 pub returns-in-Ok : goal.returns-in-Ok
