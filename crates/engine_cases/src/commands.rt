@@ -61,18 +61,31 @@ const OVERLAP: &str =
 const HIDDEN: &str =
     "\"assets\":[{\"id\":\"a\",\"kind\":\"rgb48\",\"file\":\"a.rgb\"},{\"id\":\"b\",\"kind\":\"j2c\",\"file\":\"s\"},{\"id\":\"c\",\"kind\":\"pcm24\",\"file\":\"c.pcm\",\"channels\":1}],\"picture\":[{\"asset\":\"a\",\"at\":0,\"from\":0,\"count\":2},{\"asset\":\"b\",\"at\":0,\"from\":0,\"count\":2}],\"sound\":[{\"asset\":\"c\",\"at\":0,\"from\":0,\"count\":2,\"gains\":[]}]";
 
+/// What stands in front of a project's numbers.
+const FRONT: &str =
+    "{\"title\":\"Test\",\"kind\":\"test\",\"issued\":\"2024-05-01T12:00:00\",\"namespace\":\"6ba7b810-9dad-11d1-80b4-00c04fd430c8\",\"power\":11,";
+
+fn push_number(alloc: Global, text: &mut String, name: &str, number: u32) -> Result<(), AllocError> {
+    let member = format!(in alloc; "\"{name}\":{number},")?;
+    text.push_str(member.as_str())
+}
+
 fn text_of(alloc: Global, head: Head, lists: &str) -> Result<String, AllocError> {
-    let Head {
-        width,
-        height,
-        fps,
-        rate,
-        channels,
-        frames,
-    } = head;
-    format!(in alloc;
-        "{{\"title\":\"Test\",\"kind\":\"test\",\"issued\":\"2024-05-01T12:00:00\",\"namespace\":\"6ba7b810-9dad-11d1-80b4-00c04fd430c8\",\"width\":{width},\"height\":{height},\"fps\":{fps},\"rate\":{rate},\"power\":11,\"channels\":{channels},\"frames\":{frames},{lists}}}"
-    )
+    let mut text = String::from_str(alloc, FRONT)?;
+    let numbers = [
+        ("width", u32::from(head.width)),
+        ("height", u32::from(head.height)),
+        ("fps", u32::from(head.fps)),
+        ("rate", u32::from(head.rate)),
+        ("channels", u32::from(head.channels)),
+        ("frames", head.frames),
+    ];
+    for (name, number) in numbers {
+        push_number(alloc, &mut text, name, number)?;
+    }
+    text.push_str(lists)?;
+    text.push_str("}")?;
+    Ok(text)
 }
 
 fn push_file(

@@ -17,12 +17,25 @@ const ALONE: Options = Options {
     fresh: false,
 };
 
-/// The plan of a project of so many frames. The first shows the first codestream of a folder, the
-/// next two both show the second, and those behind are black.
+/// What stands in front of a project's number of frames.
+const FRONT: &str =
+    "{\"title\":\"Test\",\"kind\":\"test\",\"issued\":\"2024-05-01T12:00:00\",\"namespace\":\"6ba7b810-9dad-11d1-80b4-00c04fd430c8\",\"width\":64,\"height\":48,\"fps\":24,\"rate\":250,\"power\":11,\"channels\":0,\"frames\":";
+
+/// The first frame shows the first codestream of a folder, the next two both show the second, and those behind are
+/// black.
+const LISTS: &str =
+    ",\"assets\":[{\"id\":\"a\",\"kind\":\"j2c\",\"file\":\"s\"}],\"picture\":[{\"asset\":\"a\",\"at\":0,\"from\":0,\"count\":1},{\"asset\":\"a\",\"at\":1,\"from\":1,\"count\":2,\"hold\":2}],\"sound\":[]}";
+
+fn text_of(alloc: Global, frames: u32) -> Result<String, AllocError> {
+    let mut text = String::from_str(alloc, FRONT)?;
+    text.push_str(format!(in alloc; "{frames}")?.as_str())?;
+    text.push_str(LISTS)?;
+    Ok(text)
+}
+
+/// The plan of a project of so many frames.
 fn plan_of(rt: &impl Abort, alloc: Global, frames: u32) -> Result<Plan, AllocError> {
-    let text = format!(in alloc;
-        "{{\"title\":\"Test\",\"kind\":\"test\",\"issued\":\"2024-05-01T12:00:00\",\"namespace\":\"6ba7b810-9dad-11d1-80b4-00c04fd430c8\",\"width\":64,\"height\":48,\"fps\":24,\"rate\":250,\"power\":11,\"channels\":0,\"frames\":{frames},\"assets\":[{{\"id\":\"a\",\"kind\":\"j2c\",\"file\":\"s\"}}],\"picture\":[{{\"asset\":\"a\",\"at\":0,\"from\":0,\"count\":1}},{{\"asset\":\"a\",\"at\":1,\"from\":1,\"count\":2,\"hold\":2}}],\"sound\":[]}}"
-    )?;
+    let text = text_of(alloc, frames)?;
     let project = read_project(alloc, text.as_bytes()).expect(rt, "the project is read");
     assert_eq!(rt; project.assets.len(), 1);
     Ok(plan(alloc, &project, &[0]).expect(rt, "the project is planned"))
@@ -54,7 +67,7 @@ fn items(alloc: Global, fills: &[u8]) -> Result<Vec<u8>, AllocError> {
     let mut items = Vec::new(alloc);
     for fill in fills {
         items.extend_from_slice(&HEAD)?;
-        items.extend_from_slice(&[*fill; 205])?;
+        items.extend_from_slice(&Vec::from_elem(alloc, *fill, 205)?)?;
     }
     Ok(items)
 }
