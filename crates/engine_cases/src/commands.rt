@@ -65,24 +65,24 @@ const HIDDEN: &str =
 const FRONT: &str =
     "{\"title\":\"Test\",\"kind\":\"test\",\"issued\":\"2024-05-01T12:00:00\",\"namespace\":\"6ba7b810-9dad-11d1-80b4-00c04fd430c8\",\"power\":11,";
 
-fn push_number(alloc: Global, text: &mut String, name: &str, number: u32) -> Result<(), AllocError> {
+fn push_number(
+    alloc: Global,
+    text: &mut String,
+    name: &str,
+    number: u32,
+) -> Result<(), AllocError> {
     let member = format!(in alloc; "\"{name}\":{number},")?;
     text.push_str(member.as_str())
 }
 
 fn text_of(alloc: Global, head: Head, lists: &str) -> Result<String, AllocError> {
     let mut text = String::from_str(alloc, FRONT)?;
-    let numbers = [
-        ("width", u32::from(head.width)),
-        ("height", u32::from(head.height)),
-        ("fps", u32::from(head.fps)),
-        ("rate", u32::from(head.rate)),
-        ("channels", u32::from(head.channels)),
-        ("frames", head.frames),
-    ];
-    for (name, number) in numbers {
-        push_number(alloc, &mut text, name, number)?;
-    }
+    push_number(alloc, &mut text, "width", u32::from(head.width))?;
+    push_number(alloc, &mut text, "height", u32::from(head.height))?;
+    push_number(alloc, &mut text, "fps", u32::from(head.fps))?;
+    push_number(alloc, &mut text, "rate", u32::from(head.rate))?;
+    push_number(alloc, &mut text, "channels", u32::from(head.channels))?;
+    push_number(alloc, &mut text, "frames", head.frames)?;
     text.push_str(lists)?;
     text.push_str("}")?;
     Ok(text)
@@ -117,14 +117,31 @@ fn project(alloc: Global, head: Head, lists: &str) -> Result<List<MemFile>, Allo
     Ok(files)
 }
 
-/// The project of one file, which has this size.
+/// What a source has: a project file, and the files that it names.
+#[derive(Clone, Copy)]
+enum Given {
+    /// All frames from one file, which has this size.
+    Rgb(u64),
+    /// The same without that file.
+    NoRgb(Head),
+    /// The feature, with sound of this size.
+    Feature(u64),
+    /// The clips that overlap and their frames, of which the last one has this size.
+    Overlap(Head, u64),
+    /// The same with the first frame alone.
+    FirstFrame(Head),
+    /// The same without frames.
+    NoFrames(Head),
+    /// The hidden clips' files of these sizes; one of size 0 isn't there.
+    Hidden { film: u64, sound: u64 },
+}
+
 fn rgb(alloc: Global, size: u64) -> Result<List<MemFile>, AllocError> {
     let mut files = project(alloc, BASE, RGB)?;
     push_file(alloc, &mut files, "a.rgb", size, 0)?;
     Ok(files)
 }
 
-/// The feature, with sound of this size.
 fn feature(alloc: Global, sound: u64) -> Result<List<MemFile>, AllocError> {
     let mut files = project(alloc, FEATURE, FILM)?;
     push_file(alloc, &mut files, "film.rgb", 2_237_248_512_000, 7)?;
@@ -132,14 +149,43 @@ fn feature(alloc: Global, sound: u64) -> Result<List<MemFile>, AllocError> {
     Ok(files)
 }
 
-/// The clips that overlap and their frames, of which the last one has this size.
-fn overlap(alloc: Global, head: Head, last: u64) -> Result<List<MemFile>, AllocError> {
+fn first_frame(alloc: Global, head: Head) -> Result<List<MemFile>, AllocError> {
     let mut files = project(alloc, head, OVERLAP)?;
     push_file(alloc, &mut files, "s/000000.j2c", 205, 1)?;
+    Ok(files)
+}
+
+fn overlap(alloc: Global, head: Head, last: u64) -> Result<List<MemFile>, AllocError> {
+    let mut files = first_frame(alloc, head)?;
     push_file(alloc, &mut files, "s/000001.j2c", 300, 2)?;
     push_file(alloc, &mut files, "t/000005.j2c", 1000, 3)?;
     push_file(alloc, &mut files, "t/000006.j2c", last, 4)?;
     Ok(files)
+}
+
+fn hidden(alloc: Global, film: u64, sound: u64) -> Result<List<MemFile>, AllocError> {
+    let mut files = project(alloc, Head { frames: 2, ..BASE }, HIDDEN)?;
+    push_file(alloc, &mut files, "s/000000.j2c", 205, 1)?;
+    push_file(alloc, &mut files, "s/000001.j2c", 205, 1)?;
+    if film > 0 {
+        push_file(alloc, &mut files, "a.rgb", film, 1)?;
+    }
+    if sound > 0 {
+        push_file(alloc, &mut files, "c.pcm", sound, 1)?;
+    }
+    Ok(files)
+}
+
+fn files_of(alloc: Global, given: Given) -> Result<List<MemFile>, AllocError> {
+    match given {
+        Given::Rgb(size) => rgb(alloc, size),
+        Given::NoRgb(head) => project(alloc, head, RGB),
+        Given::Feature(sound) => feature(alloc, sound),
+        Given::Overlap(head, last) => overlap(alloc, head, last),
+        Given::FirstFrame(head) => first_frame(alloc, head),
+        Given::NoFrames(head) => project(alloc, head, OVERLAP),
+        Given::Hidden { film, sound } => hidden(alloc, film, sound),
+    }
 }
 
 fn only(alloc: Global, call: u64) -> Result<List<u64>, AllocError> {
@@ -169,12 +215,12 @@ struct Ran {
 fn make_run(
     alloc: Global,
     words: &[&str],
-    files: List<MemFile>,
+    given: Given,
     failing: [u64; 3],
 ) -> Result<Ran, AllocError> {
     let [in_source, in_volume, in_sink] = failing;
     let words = words_of(alloc, words)?;
-    let mut source = MemSource::new(files, only(alloc, in_source)?);
+    let mut source = MemSource::new(files_of(alloc, given)?, only(alloc, in_source)?);
     let mut volume = MemVolume::new(alloc, only(alloc, in_volume)?);
     let mut printed = MemSink::new(alloc, only(alloc, in_sink)?);
     let exit = run_make(alloc, &words, &mut source, &mut volume, &mut printed).exit_code();
@@ -188,19 +234,23 @@ fn make_run(
 
 const MAKE: [&str; 3] = ["make", "p.json", "out"];
 
+fn expect_end(rt: &impl Abort, sink: &MemSink, printed: &str, exit: u8, wanted: u8) {
+    assert_eq!(rt; sink.written(), printed.as_bytes());
+    assert_eq!(rt; exit, wanted);
+}
+
 /// How `make` ends: what it prints, its exit status, and the length of the picture file that it leaves.
 fn expect_make(
     rt: &impl Abort,
     alloc: Global,
     words: &[&str],
-    files: List<MemFile>,
+    given: Given,
     printed: &str,
     exit: u8,
     picture: usize,
 ) -> Result<(), AllocError> {
-    let ran = make_run(alloc, words, files, [0, 0, 0])?;
-    assert_eq!(rt; ran.printed.written(), printed.as_bytes());
-    assert_eq!(rt; ran.exit, exit);
+    let ran = make_run(alloc, words, given, [0, 0, 0])?;
+    expect_end(rt, &ran.printed, printed, ran.exit, exit);
     assert_eq!(rt; ran.volume.bytes(PICTURE).len(), picture);
     assert_eq!(rt; ran.volume.put(PICTURE), picture as u64);
     Ok(())
@@ -211,16 +261,15 @@ fn expect_run(
     rt: &impl Abort,
     alloc: Global,
     words: &[&str],
-    files: List<MemFile>,
+    given: Given,
     printed: &str,
     exit: u8,
 ) -> Result<(), AllocError> {
     let words = words_of(alloc, words)?;
-    let mut source = MemSource::new(files, List::new(alloc));
+    let mut source = MemSource::new(files_of(alloc, given)?, List::new(alloc));
     let mut out = MemSink::new(alloc, List::new(alloc));
     let ended = run(alloc, &words, &mut source, &mut out).exit_code();
-    assert_eq!(rt; out.written(), printed.as_bytes());
-    assert_eq!(rt; ended, exit);
+    expect_end(rt, &out, printed, ended, exit);
     Ok(())
 }
 
@@ -236,21 +285,22 @@ fn push_item(alloc: Global, picture: &mut Vec<u8>, size: u16, fill: u8) -> Resul
     picture.extend_from_slice(&Vec::from_elem(alloc, fill, usize::from(size))?)
 }
 
-#[test]
-fn frames_are_copied_in_order(rt: HostRuntime) -> Result<(), Fail> {
-    let alloc = rt.alloc();
-    let ran = make_run(alloc, &MAKE, overlap(alloc, LEAST, 26_041)?, [0, 0, 0])?;
-    assert_eq!(rt;
-        ran.printed.written(),
-        b"done: 5 frames, 0 kept\n".as_slice()
-    );
-    assert_eq!(rt; ran.exit, 0);
+fn picture_of_overlap(alloc: Global) -> Result<Vec<u8>, AllocError> {
     let mut picture = Vec::new(alloc);
     push_item(alloc, &mut picture, 205, 1)?;
     push_item(alloc, &mut picture, 300, 2)?;
     push_item(alloc, &mut picture, 1000, 3)?;
     push_item(alloc, &mut picture, 1000, 3)?;
     push_item(alloc, &mut picture, 26_041, 4)?;
+    Ok(picture)
+}
+
+#[test]
+fn frames_are_copied_in_order(rt: HostRuntime) -> Result<(), Fail> {
+    let alloc = rt.alloc();
+    let ran = make_run(alloc, &MAKE, Given::Overlap(LEAST, 26_041), [0, 0, 0])?;
+    expect_end(&rt, &ran.printed, "done: 5 frames, 0 kept\n", ran.exit, 0);
+    let picture = picture_of_overlap(alloc)?;
     assert!(rt; ran.volume.bytes(PICTURE) == picture.as_slice());
     // The frame that is held is read once.
     let text = text_of(alloc, LEAST, OVERLAP)?.len() as u64;
@@ -258,58 +308,36 @@ fn frames_are_copied_in_order(rt: HostRuntime) -> Result<(), Fail> {
     Ok(())
 }
 
+const USAGE: &str = "usage: dcp make|plan|frame|read|trial\n";
+
 #[test]
 fn make_names_what_is_wrong(rt: HostRuntime) -> Result<(), Fail> {
     let alloc = rt.alloc();
-    let usage = "usage: dcp make|plan|frame|read|trial\n";
-    expect_make(&rt, alloc, &["make", "p.json"], rgb(alloc, 0)?, usage, 2, 0)?;
+    let none = Given::Rgb(0);
+    expect_make(&rt, alloc, &["make", "p.json"], none, USAGE, 2, 0)?;
     let workers = ["make", "p.json", "out", "--workers", "17"];
-    expect_make(&rt, alloc, &workers, rgb(alloc, 0)?, usage, 2, 0)?;
+    expect_make(&rt, alloc, &workers, none, USAGE, 2, 0)?;
     let other = ["make", "q.json", "out"];
-    expect_make(
-        &rt,
-        alloc,
-        &other,
-        rgb(alloc, 0)?,
-        "input missing: q.json\n",
-        4,
-        0,
-    )?;
-    let narrow = project(alloc, Head { width: 31, ..BASE }, RGB)?;
-    expect_make(
-        &rt,
-        alloc,
-        &MAKE,
-        narrow,
-        "project refused: P6 width 31\n",
-        3,
-        0,
-    )?;
-    let none = project(alloc, BASE, RGB)?;
+    expect_make(&rt, alloc, &other, none, "input missing: q.json\n", 4, 0)?;
+    Ok(())
+}
+
+#[test]
+fn make_names_the_input_that_is_wrong(rt: HostRuntime) -> Result<(), Fail> {
+    let alloc = rt.alloc();
+    let narrow = Given::NoRgb(Head { width: 31, ..BASE });
+    let refused = "project refused: P6 width 31\n";
+    expect_make(&rt, alloc, &MAKE, narrow, refused, 3, 0)?;
+    let none = Given::NoRgb(BASE);
     expect_make(&rt, alloc, &MAKE, none, "input missing: a.rgb\n", 4, 0)?;
     let short = "input short: a has 442367 needs 442368\n";
-    expect_make(&rt, alloc, &MAKE, rgb(alloc, 442_367)?, short, 5, 0)?;
-    let mut first = project(alloc, LEAST, OVERLAP)?;
-    push_file(alloc, &mut first, "s/000000.j2c", 205, 1)?;
-    expect_make(
-        &rt,
-        alloc,
-        &MAKE,
-        first,
-        "input missing: s/000001.j2c\n",
-        4,
-        225,
-    )?;
-    let long = overlap(alloc, LEAST, 26_042)?;
-    expect_make(
-        &rt,
-        alloc,
-        &MAKE,
-        long,
-        "bad frame: 4 limit 0 26042\n",
-        12,
-        2585,
-    )?;
+    expect_make(&rt, alloc, &MAKE, Given::Rgb(442_367), short, 5, 0)?;
+    let first = Given::FirstFrame(LEAST);
+    let missing = "input missing: s/000001.j2c\n";
+    expect_make(&rt, alloc, &MAKE, first, missing, 4, 225)?;
+    let long = Given::Overlap(LEAST, 26_042);
+    let bad = "bad frame: 4 limit 0 26042\n";
+    expect_make(&rt, alloc, &MAKE, long, bad, 12, 2585)?;
     Ok(())
 }
 
@@ -317,19 +345,16 @@ fn make_names_what_is_wrong(rt: HostRuntime) -> Result<(), Fail> {
 #[test]
 fn make_tells_what_is_not_built(rt: HostRuntime) -> Result<(), Fail> {
     let alloc = rt.alloc();
-    let unbuilt = "unbuilt\n";
-    expect_make(&rt, alloc, &MAKE, rgb(alloc, 442_368)?, unbuilt, 17, 0)?;
-    let black = overlap(alloc, Head { frames: 6, ..LEAST }, 26_041)?;
-    expect_make(&rt, alloc, &MAKE, black, unbuilt, 17, 0)?;
-    let sound = overlap(
-        alloc,
-        Head {
-            channels: 1,
-            ..LEAST
-        },
-        26_041,
-    )?;
-    expect_make(&rt, alloc, &MAKE, sound, unbuilt, 17, 0)?;
+    let black = Head { frames: 6, ..LEAST };
+    let sound = Head {
+        channels: 1,
+        ..LEAST
+    };
+    let raw = Given::Rgb(442_368);
+    let (black, sound) = (Given::Overlap(black, 26_041), Given::Overlap(sound, 26_041));
+    expect_make(&rt, alloc, &MAKE, raw, "unbuilt\n", 17, 0)?;
+    expect_make(&rt, alloc, &MAKE, black, "unbuilt\n", 17, 0)?;
+    expect_make(&rt, alloc, &MAKE, sound, "unbuilt\n", 17, 0)?;
     Ok(())
 }
 
@@ -337,56 +362,45 @@ fn make_tells_what_is_not_built(rt: HostRuntime) -> Result<(), Fail> {
 #[test]
 fn hidden_inputs_are_wanted(rt: HostRuntime) -> Result<(), Fail> {
     let alloc = rt.alloc();
-    let head = Head { frames: 2, ..BASE };
-    let mut files = project(alloc, head, HIDDEN)?;
-    push_file(alloc, &mut files, "s/000000.j2c", 205, 1)?;
-    push_file(alloc, &mut files, "s/000001.j2c", 205, 1)?;
-    push_file(alloc, &mut files, "c.pcm", 12_000, 1)?;
-    expect_make(&rt, alloc, &MAKE, files, "input missing: a.rgb\n", 4, 0)?;
-    let mut files = project(alloc, head, HIDDEN)?;
-    push_file(alloc, &mut files, "a.rgb", 36_864, 1)?;
-    expect_make(&rt, alloc, &MAKE, files, "input missing: c.pcm\n", 4, 0)?;
-    let mut files = project(alloc, head, HIDDEN)?;
-    push_file(alloc, &mut files, "a.rgb", 36_864, 1)?;
-    push_file(alloc, &mut files, "c.pcm", 11_999, 1)?;
-    expect_make(
-        &rt,
-        alloc,
-        &MAKE,
-        files,
-        "input short: c has 11999 needs 12000\n",
-        5,
-        0,
-    )?;
+    let (film, sound) = (0, 12_000);
+    let no_film = Given::Hidden { film, sound };
+    expect_make(&rt, alloc, &MAKE, no_film, "input missing: a.rgb\n", 4, 0)?;
+    let (film, sound) = (36_864, 0);
+    let no_sound = Given::Hidden { film, sound };
+    expect_make(&rt, alloc, &MAKE, no_sound, "input missing: c.pcm\n", 4, 0)?;
+    let (film, sound) = (36_864, 11_999);
+    let short = Given::Hidden { film, sound };
+    let told = "input short: c has 11999 needs 12000\n";
+    expect_make(&rt, alloc, &MAKE, short, told, 5, 0)?;
     Ok(())
 }
+
+const PLAN: [&str; 2] = ["plan", "p.json"];
 
 #[test]
 fn plan_shows_a_run_before_it_starts(rt: HostRuntime) -> Result<(), Fail> {
     let alloc = rt.alloc();
-    let plan = ["plan", "p.json"];
     let lines =
         "frames 172800\nsize 1998x1080\nfps 24\nlimit 1302083\ncomponent 1041666\nfresh 172800\nblack 0\n";
-    expect_run(&rt, alloc, &plan, feature(alloc, 6_220_800_000)?, lines, 0)?;
-    let short = "input short: mix has 6220799999 needs 6220800000\n";
-    expect_run(&rt, alloc, &plan, feature(alloc, 6_220_799_999)?, short, 5)?;
+    expect_run(&rt, alloc, &PLAN, Given::Feature(6_220_800_000), lines, 0)?;
     let lines = "frames 6\nsize 64x48\nfps 48\nlimit 26041\ncomponent 20833\nfresh 5\nblack 1\n";
-    let black = project(alloc, Head { frames: 6, ..LEAST }, OVERLAP)?;
-    expect_run(&rt, alloc, &plan, black, lines, 0)?;
-    let narrow = project(alloc, Head { width: 31, ..BASE }, RGB)?;
-    expect_run(
-        &rt,
-        alloc,
-        &plan,
-        narrow,
-        "project refused: P6 width 31\n",
-        3,
-    )?;
-    let none = project(alloc, BASE, RGB)?;
-    expect_run(&rt, alloc, &plan, none, "input missing: a.rgb\n", 4)?;
-    let usage = "usage: dcp make|plan|frame|read|trial\n";
-    expect_run(&rt, alloc, &["plan"], rgb(alloc, 0)?, usage, 2)?;
-    expect_run(&rt, alloc, &["frame", "p.json"], rgb(alloc, 0)?, usage, 2)?;
+    let black = Given::NoFrames(Head { frames: 6, ..LEAST });
+    expect_run(&rt, alloc, &PLAN, black, lines, 0)?;
+    Ok(())
+}
+
+#[test]
+fn plan_names_what_is_wrong(rt: HostRuntime) -> Result<(), Fail> {
+    let alloc = rt.alloc();
+    let short = "input short: mix has 6220799999 needs 6220800000\n";
+    expect_run(&rt, alloc, &PLAN, Given::Feature(6_220_799_999), short, 5)?;
+    let narrow = Given::NoRgb(Head { width: 31, ..BASE });
+    let refused = "project refused: P6 width 31\n";
+    expect_run(&rt, alloc, &PLAN, narrow, refused, 3)?;
+    let none = Given::NoRgb(BASE);
+    expect_run(&rt, alloc, &PLAN, none, "input missing: a.rgb\n", 4)?;
+    expect_run(&rt, alloc, &["plan"], none, USAGE, 2)?;
+    expect_run(&rt, alloc, &["frame", "p.json"], none, USAGE, 2)?;
     Ok(())
 }
 
@@ -397,9 +411,8 @@ fn expect_fault(
     printed: &str,
     exit: u8,
 ) -> Result<(), AllocError> {
-    let ran = make_run(alloc, &MAKE, overlap(alloc, LEAST, 26_041)?, failing)?;
-    assert_eq!(rt; ran.printed.written(), printed.as_bytes());
-    assert_eq!(rt; ran.exit, exit);
+    let ran = make_run(alloc, &MAKE, Given::Overlap(LEAST, 26_041), failing)?;
+    expect_end(rt, &ran.printed, printed, ran.exit, exit);
     Ok(())
 }
 

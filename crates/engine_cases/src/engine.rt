@@ -41,18 +41,21 @@ fn plan_of(rt: &impl Abort, alloc: Global, frames: u32) -> Result<Plan, AllocErr
     Ok(plan(alloc, &project, &[0]).expect(rt, "the project is planned"))
 }
 
-/// A folder of two codestreams of 205 bytes, the first filled with 5 and the second with 6.
+/// A file of 205 bytes of this kind.
+fn codestream(alloc: Global, name: &[u8], fill: u8) -> Result<MemFile, AllocError> {
+    Ok(MemFile {
+        name: Bytes::copy_of(alloc, name)?,
+        size: 205,
+        fill,
+        bytes: List::new(alloc),
+    })
+}
+
+/// A folder of two codestreams, the first filled with 5 and the second with 6.
 fn folder(alloc: Global) -> Result<MemSource, AllocError> {
     let mut files = List::new(alloc);
-    for fill in 5..7u8 {
-        let name = format!(in alloc; "s/00000{}.j2c", fill - 5)?;
-        files.push(MemFile {
-            name: Bytes::from(name.into_bytes()),
-            size: 205,
-            fill,
-            bytes: List::new(alloc),
-        })?;
-    }
+    files.push(codestream(alloc, b"s/000000.j2c", 5)?)?;
+    files.push(codestream(alloc, b"s/000001.j2c", 6)?)?;
     Ok(MemSource::new(files, List::new(alloc)))
 }
 
