@@ -6,5 +6,7 @@ pub mod ColourLaws
 pub mod CutLaws
 pub mod HeaderLaws
 pub mod OrderLaws
+pub mod PassLaws
 pub mod QuantiserLaws
+pub mod StepLaws
 pub mod StreamLaws

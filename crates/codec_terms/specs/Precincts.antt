@@ -2,6 +2,7 @@
 -- one tile and one layer.
 --     resolution_columns shape r      the size of resolution r; likewise rows
 --     precinct_columns shape r        how many precincts resolution r has in a row; likewise rows
+--     block_width shape band bx       the width of a code-block; likewise height
 --     blocks_in shape band precinct   the code-blocks of a precinct in a sub-band
 --     packet_order shape              the packets of a component in their order
 use Rattle.std.specs.Prelude.{◌≡◌, ◌<◌, ◌≤◌, ℕ, zero, suc, ◌+◌, ◌-◌, ◌*◌, ◌/◌, ◌^◌, ◌%◌, ◌==◌, Bool, ◌&&◌, ◌||◌, if◌then◌else◌, nat_lt, min, List, [], ◌∷◌, map}
@@ -13,7 +14,7 @@ use Rattle.codec_terms.specs.declared.picture.BandKind.{BandKind}
 use Rattle.codec_terms.specs.declared.picture.BandKind.TheVariants.{LL}
 use Rattle.codec_terms.specs.Bands.{band_columns, band_rows}
 
--- ---- precincts (equations B-14 and B-16)
+-- ---- precincts (equations B-14 and B-16) of resolutions 0 to 5
 
 abbrev pub resolution_columns : Shape → ℕ → ℕ
 resolution_columns shape r = div_ceil shape.width (2 ^ (5 - r))
@@ -67,6 +68,13 @@ block_columns shape band = div_ceil (band_columns shape band) 32
 
 abbrev pub block_rows : Shape → Band → ℕ
 block_rows shape band = div_ceil (band_rows shape band) 32
+
+-- the columns of block (bx, by), and its rows: 32, or what is left of the sub-band
+abbrev pub block_width : Shape → Band → ℕ → ℕ
+block_width shape band bx = group_length (band_columns shape band) 32 bx
+
+abbrev pub block_height : Shape → Band → ℕ → ℕ
+block_height shape band by = group_length (band_rows shape band) 32 by
 
 abbrev pub blocks_at : Shape → Band → ℕ → ℕ → BlockArea
 blocks_at shape band px py =

@@ -12,7 +12,7 @@ mod transform;
 pub use bands::{
     coefficient_laws, packet_order_laws, packet_orders, sub_band_laws, sub_band_values,
 };
-pub use blocks::{block_values, coder_values};
+pub use blocks::{block_values, coder_values, pass_laws, sample_laws};
 pub use colour::{colour_laws, colour_values};
 pub use packets::{header_laws, header_values, packet_values, tag_tree_values};
 pub use streams::{
