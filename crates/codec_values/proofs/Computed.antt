@@ -17,10 +17,12 @@ use Rattle.codec_terms.specs.PacketHeader.{blocks_bits, packed_into, ends_with_f
 use Rattle.codec_terms.specs.PacketReading.{byte_read, bit_read, number_read, leaf_read_within, pass_count_read, ones_read_within, blocks_read, bands_read, codewords_read, band_codewords_read, packet_read}
 use Rattle.codec_terms.specs.Codestream.{block_of, packet_block, packet_band, component_packets, main_header, stream}
 use Rattle.codec_terms.specs.MainReading.{number_of, fields_end, segments_read, main_read}
+use Rattle.codec_terms.specs.Encode.{wave, kept_coefficients}
+use Rattle.codec_terms.specs.Cut.{least_cut}
 use Rattle.codec_terms.specs.StreamReading.{packets_read, tile_part_end, parts_read, packet_band_of, precinct_blocks, band_blocks, block_values, band_read_values, stream_read}
 
 unfoldable pub computed_pictures : ℕ
-unfolding greatest_from code_value xyz_plane grid_of columns_of of_parts component lifted even_samples odd_samples transformed_line level transformed resolution_bands component_bands all_bands band_values packet_order
+unfolding greatest_from code_value xyz_plane grid_of columns_of of_parts component lifted even_samples odd_samples transformed_line level transformed wave kept_coefficients resolution_bands component_bands all_bands band_values packet_order
 computed_pictures = 0
 
 unfoldable pub computed_blocks : ℕ
@@ -32,5 +34,5 @@ unfolding levels_from new_tree path_bits path_told leaves_bits blank_levels blan
 computed_packets = 0
 
 unfoldable pub computed_streams : ℕ
-unfolding block_of packet_block packet_band component_packets main_header stream number_of fields_end segments_read main_read packets_read tile_part_end parts_read packet_band_of precinct_blocks band_blocks block_values band_read_values stream_read
+unfolding block_of packet_block packet_band component_packets main_header stream least_cut number_of fields_end segments_read main_read packets_read tile_part_end parts_read packet_band_of precinct_blocks band_blocks block_values band_read_values stream_read
 computed_streams = 0

@@ -1,5 +1,5 @@
 -- The inputs of worked values.
-use Rattle.std.specs.Prelude.{ℕ, ◌*◌, ◌%◌, Bool, true, false, List, [], ◌∷◌, map, slice_set, replicate, ℤ, pos, negsuc, ◌-ℤ◌, Result, Ok, Err}
+use Rattle.std.specs.Prelude.{ℕ, ◌*◌, ◌%◌, Bool, true, false, List, [], ◌∷◌, ◌++◌, map, take, slice_set, replicate, ℤ, pos, negsuc, ◌-ℤ◌, Result, Ok, Err}
 use Rattle.codec_terms.specs.declared.picture.Shape.{Shape}
 use Rattle.codec_terms.specs.declared.picture.Band.{Band}
 use Rattle.codec_terms.specs.declared.picture.BandKind.{BandKind}
@@ -157,3 +157,16 @@ first_to_go = slice_set (replicate 3072 (pos 0)) 1792 (pos 1)
 -- samples of all sizes, in no order
 abbrev pub scattered : ℕ → ℤ
 scattered n = pos (n * 1000003 % 16777216) -ℤ pos 8388608
+
+-- its codestream at cut 0: the main header of the zero stream with other lengths, then the tile-parts
+abbrev pub few_header : List ℕ
+few_header = slice_set (slice_set (slice_set (take 143 zero_stream) 118 31) 123 24) 128 25
+
+abbrev pub few_stream : List ℕ
+few_stream =
+    few_header
+    ++ 0xFF ∷ 0x90 ∷ 0x00 ∷ 0x0A ∷ 0x00 ∷ 0x00 ∷ 0x00 ∷ 0x00 ∷ 0x00 ∷ 0x1F ∷ 0x00 ∷ 0x03 ∷ 0xFF ∷ 0x93 ∷ 0xC7 ∷ 0xF2 ∷ 0x04 ∷ 0x06 ∷ 0xBA ∷ 0x00 ∷ 0x00 ∷ 0xC0 ∷ 0x0F ∷ 0x84 ∷ 0x40 ∷ 0x16 ∷ 0xAD ∷ 0xFF ∷ 0x57 ∷ 0x00 ∷ 0x00
+    ∷ 0xFF ∷ 0x90 ∷ 0x00 ∷ 0x0A ∷ 0x00 ∷ 0x00 ∷ 0x00 ∷ 0x00 ∷ 0x00 ∷ 0x18 ∷ 0x01 ∷ 0x03 ∷ 0xFF ∷ 0x93 ∷ 0x00 ∷ 0x00 ∷ 0x00 ∷ 0x00 ∷ 0x00 ∷ 0x90 ∷ 0x01 ∷ 0x10 ∷ 0x2D ∷ 0xE4
+    ∷ 0xFF ∷ 0x90 ∷ 0x00 ∷ 0x0A ∷ 0x00 ∷ 0x00 ∷ 0x00 ∷ 0x00 ∷ 0x00 ∷ 0x19 ∷ 0x02 ∷ 0x03 ∷ 0xFF ∷ 0x93 ∷ 0x00 ∷ 0x00 ∷ 0xC0 ∷ 0x03 ∷ 0xA1 ∷ 0x00 ∷ 0x07 ∷ 0xDF ∷ 0x00 ∷ 0x00 ∷ 0x00
+    ∷ 0xFF ∷ 0xD9
+    ∷ []

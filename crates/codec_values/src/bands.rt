@@ -1,9 +1,10 @@
-ghost use Rattle.std.specs.Prelude.{◌≡◌, ◌*◌, ◌<◌, ℕ, ℤ, List, length, IsTrue, [], ◌∷◌, map, take, sum_by, count_by, ◌==◌};
+ghost use Rattle.std.specs.Prelude.{◌≡◌, ◌*◌, ◌<◌, ℕ, ℤ, pos, neg_ℤ, List, length, IsTrue, [], ◌∷◌, map, take, sum_by, count_by, ◌==◌};
 ghost use Rattle.std.specs.List.Sorted.{IsSortedBy};
 ghost use Rattle.std.specs.List.{list_all, range_with_len, flat_map, AllByRecursion};
 ghost use Rattle.codec_terms.specs.declared.picture.Shape.{Shape};
 ghost use Rattle.codec_terms.specs.Bands.{component_bands, all_bands, band_columns, band_rows, band_length, rank, band_place, band_values};
 ghost use Rattle.codec_terms.specs.Encode.{kept_coefficients};
+ghost use Rattle.codec_values.specs.Worked.{small, small_with, few};
 ghost use Rattle.codec_terms.specs.Precincts.{precinct_columns, precinct_rows, Precinct, comes_before, all_precincts, packet_order, OneGroup, HasPrecincts};
 
 /// The sub-bands of a picture of 33 columns and 47 rows, and the order of all sub-bands.
@@ -34,6 +35,14 @@ pub fn coefficient_laws()
         → flat_map (band_values shape q) all_bands ≡ q }
     ensures cut_zero { (shape : Shape) (q : List ℤ) → length q ≡ 3 * (shape.width * shape.height)
         → kept_coefficients shape 0 q ≡ q }
+{}
+
+/// At cut 100 bit-planes 0 and 1 are gone everywhere: -1234 and 5 stay in part, -3, 1 and -2 don't. At cut 48 only
+/// bit-plane 0 is.
+pub fn kept_values()
+    ensures two_planes { kept_coefficients small 100 few ≡ small_with (neg_ℤ (pos 1232)) (pos 4) (pos 0) (pos 0) (pos 0) }
+    ensures one_plane { kept_coefficients small 48 few
+        ≡ small_with (neg_ℤ (pos 1234)) (pos 4) (neg_ℤ (pos 2)) (pos 0) (neg_ℤ (pos 2)) }
 {}
 
 /// The packets of a component are all its precincts, since any measure of them sums to the same, and no one
