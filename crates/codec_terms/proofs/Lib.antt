@@ -4,6 +4,7 @@ pub mod BlockLaws
 pub mod CoefficientLaws
 pub mod ColourLaws
 pub mod CutLaws
+pub mod GridLaws
 pub mod HeaderLaws
 pub mod OrderLaws
 pub mod PassLaws

@@ -2,6 +2,7 @@
 -- one tile and one layer.
 --     resolution_columns shape r      the size of resolution r; likewise rows
 --     precinct_columns shape r        how many precincts resolution r has in a row; likewise rows
+--     part_at size columns rows grid x y     a part of a grid: the blocks of a precinct, the samples of a block
 --     block_width shape band bx       the width of a code-block; likewise height
 --     blocks_in shape band precinct   the code-blocks of a precinct in a sub-band
 --     packet_order shape              the packets of a component in their order
@@ -12,6 +13,7 @@ use Rattle.codec_terms.specs.declared.picture.Shape.{Shape}
 use Rattle.codec_terms.specs.declared.picture.Band.{Band}
 use Rattle.codec_terms.specs.declared.picture.BandKind.{BandKind}
 use Rattle.codec_terms.specs.declared.picture.BandKind.TheVariants.{LL}
+use Rattle.codec_terms.specs.Grid.{part_of}
 use Rattle.codec_terms.specs.Bands.{band_columns, band_rows}
 
 -- ---- precincts (equations B-14 and B-16) of resolutions 0 to 5
@@ -52,6 +54,11 @@ pub record BlockArea : Type 0 where
 -- of n things in a line, how many the group of this number has where groups have size things
 abbrev pub group_length : ℕ → ℕ → ℕ → ℕ
 group_length n size group = min size (n - size * group)
+
+-- part (x, y) of a grid of so many columns and rows, which is divided into parts of size columns and size rows
+abbrev pub part_at : {A : Type 0} → ℕ → ℕ → ℕ → List (List A) → ℕ → ℕ → List (List A)
+part_at size columns rows grid x y =
+    part_of (size * x) (size * y) (group_length columns size x) (group_length rows size y) grid
 
 -- thing x is in this group, and x is in exactly one of the groups that n things make
 abbrev pub IsInGroup : ℕ → ℕ → ℕ → ℕ → Type 0

@@ -10,7 +10,8 @@ mod streams;
 mod transform;
 
 pub use bands::{
-    coefficient_laws, kept_values, packet_order_laws, packet_orders, sub_band_laws, sub_band_values,
+    coefficient_laws, kept_values, packet_order_laws, packet_orders, part_laws, sub_band_laws,
+    sub_band_values,
 };
 pub use blocks::{block_values, coder_values, pass_laws, sample_laws};
 pub use colour::{colour_laws, colour_values};
