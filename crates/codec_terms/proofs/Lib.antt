@@ -8,6 +8,8 @@ pub mod GridLaws
 pub mod HeaderLaws
 pub mod OrderLaws
 pub mod PassLaws
+pub mod PlaneLaws
 pub mod QuantiserLaws
 pub mod StepLaws
 pub mod StreamLaws
+pub mod WalkLaws

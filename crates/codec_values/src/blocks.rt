@@ -1,8 +1,8 @@
-ghost use Rattle.std.specs.Prelude.{◌≡◌, ℕ, ◌+◌, ◌-◌, true, false, pos, negsuc, [], ◌∷◌, ◌++◌, map, length, take, replicate};
+ghost use Rattle.std.specs.Prelude.{◌≡◌, ℕ, ◌+◌, ◌-◌, true, false, pos, negsuc, [], ◌∷◌, ◌++◌, map, List, length, take, replicate};
 ghost use Rattle.codec_terms.specs.declared.picture.BandKind.TheVariants.{LL, HL, LH};
-ghost use Rattle.codec_terms.specs.Mq.{codeword};
-ghost use Rattle.codec_terms.specs.Passes.{Propagation, Refinement, Cleanup, passes_down_to, pass_count};
-ghost use Rattle.codec_terms.specs.BlockDecisions.{Block, Walk, propagated, plane_count, decisions};
+ghost use Rattle.codec_terms.specs.Mq.{Decision, codeword};
+ghost use Rattle.codec_terms.specs.Passes.{Pass, Propagation, Refinement, Cleanup, passes_down_to, pass_count};
+ghost use Rattle.codec_terms.specs.BlockDecisions.{Block, Walk, propagated, pass_told, plane_count, decisions};
 ghost use Rattle.codec_terms.specs.BlockReading.{Area, Known, propagation_at, block_read};
 ghost use Rattle.codec_values.specs.Worked.{decision, one_sample, four_by_four, known_context_bits, bits_in};
 
@@ -31,9 +31,13 @@ pub fn block_values()
 {}
 
 /// The passes of n bit-planes are `pass_count n`, and those of the highest bit-planes are the first of those of all.
+/// What a pass does rests on the sets alone: its decisions come behind those that were there.
 pub fn pass_laws()
     ensures count { (p n : ℕ) → length (passes_down_to p n) ≡ pass_count n }
     ensures first { (p n : ℕ) → take (pass_count n) (passes_down_to 0 (p + n)) ≡ passes_down_to p n }
+    ensures behind { (b : Block) (p : ℕ) (pass : Pass) (ds : List Decision) (w : Walk)
+        → pass_told b p pass (record w { decisions = ds ++ w.decisions })
+        ≡ record (pass_told b p pass w) { decisions = ds ++ (pass_told b p pass w).decisions } }
 {}
 
 /// What a propagation pass does at one sample keeps the number of samples, in both directions.
