@@ -4,10 +4,11 @@ use Rattle.std.specs.Int.{div_ceil}
 use Rattle.std.specs.List.{flat_map, range_with_len, AllByRecursion}
 use Rattle.std.proofs.lemmas.List.{take_min, take_all, take_at, drop-drop, drop_all, drop_at, take-append-drop, map-append}
 use Rattle.std.proofs.lemmas.List.FromFn.{take-map-range_with_len, length-map-range_with_len}
+use Rattle.std.proofs.lemmas.Nat.{mod-mul-add, div-mul-add}
 use Rattle.codec_terms.specs.declared.picture.Shape.{Shape}
 use Rattle.codec_terms.specs.declared.picture.Band.{Band}
 use Rattle.codec_terms.specs.Grid.{grid_of, grid_with, beside, side_by_side, of_parts}
-use Rattle.codec_terms.specs.Precincts.{group_length, part_at, BlockArea, block_columns, block_rows, blocks_at}
+use Rattle.codec_terms.specs.Precincts.{group_length, part_at, BlockArea, block_columns, block_rows, blocks_at, blocks_in, resolution, precinct_columns, precinct_number}
 use Rattle.codec_terms.specs.Codestream.{row_places, block_places}
 
 -- each row has so many items
@@ -167,3 +168,10 @@ pub grid_of-block_places : {A : Type 0} (f : ℕ → ℕ → A) (shape : Shape) 
 grid_of-block_places f shape band px py =
     grid_of_places f (blocks_at shape band px py) (4 * py) (group_length (block_rows shape band) 4 py)
     ∙ sym (part_at-grid_with f 4 (block_columns shape band) (block_rows shape band) px py)
+
+-- a precinct's number says where it stands
+pub blocks_in-precinct_number : (shape : Shape) (band : Band) (px py : ℕ) → px < precinct_columns shape (resolution band)
+    → blocks_in shape band (precinct_number shape (resolution band) px py) ≡ blocks_at shape band px py
+blocks_in-precinct_number shape band px py inside =
+    let across : ℕ = precinct_columns shape (resolution band) in
+    ap₂ (λ (x y : ℕ). blocks_at shape band x y) (mod-mul-add py across px inside) (div-mul-add py across px inside)

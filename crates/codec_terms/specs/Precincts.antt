@@ -97,7 +97,10 @@ pub record HasPrecincts (shape : Shape) (band : Band) : Type 0 where
   pub in_columns : block_columns shape band ≤ 4 * precinct_columns shape (resolution band)
   pub in_rows : block_rows shape band ≤ 4 * precinct_rows shape (resolution band)
 
--- precincts are numbered in raster order
+-- precincts of a resolution are numbered in raster order; the one in column px and row py has this number
+abbrev pub precinct_number : Shape → ℕ → ℕ → ℕ → ℕ
+precinct_number shape r px py = py * precinct_columns shape r + px
+
 abbrev pub blocks_in : Shape → Band → ℕ → BlockArea
 blocks_in shape band precinct =
     let across = precinct_columns shape (resolution band) in

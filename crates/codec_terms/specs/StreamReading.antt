@@ -3,7 +3,7 @@
 --         comes first, then one of packets, then one of parts
 -- Bit-planes that weren't coded are zero. A sub-band's blocks are put together from the parts of its precincts,
 -- and its coefficients from those of its blocks.
-use Rattle.std.specs.Prelude.{ℕ, suc, ◌+◌, ◌-◌, ◌*◌, ◌==◌, Bool, not, ◌&&◌, if◌then◌else◌, nat_lt, List, [], ◌∷◌, map, length, slice_index, slice_index_or, ℤ, Option, Some, None, Result, Ok, Err, find, zip, sum_by, count_by}
+use Rattle.std.specs.Prelude.{ℕ, suc, ◌+◌, ◌-◌, ◌==◌, Bool, not, ◌&&◌, if◌then◌else◌, nat_lt, List, [], ◌∷◌, map, length, slice_index, slice_index_or, ℤ, Option, Some, None, Result, Ok, Err, find, zip, sum_by, count_by}
 use Rattle.std.specs.List.{flat_map}
 use Rattle.codec_terms.specs.declared.picture.Shape.{Shape}
 use Rattle.codec_terms.specs.declared.picture.Band.{Band}
@@ -21,7 +21,7 @@ use Rattle.codec_terms.specs.declared.picture.BandKind.{BandKind}
 use Rattle.codec_terms.specs.declared.picture.BandKind.TheVariants.{LL, HL, LH, HH}
 use Rattle.codec_terms.specs.Grid.{grid_of, items_of, grid_with, with_places, of_parts}
 use Rattle.codec_terms.specs.Bands.{kind_place, resolution_bands, component_bands}
-use Rattle.codec_terms.specs.Precincts.{block_width, block_height, blocks_in, Precinct, precinct_columns, precinct_rows, resolution, packet_order}
+use Rattle.codec_terms.specs.Precincts.{block_width, block_height, blocks_in, Precinct, precinct_columns, precinct_rows, precinct_number, resolution, packet_order}
 use Rattle.codec_terms.specs.BlockReading.{block_read}
 use Rattle.codec_terms.specs.Reading.{on_ok}
 use Rattle.codec_terms.specs.PacketReading.{packet_read}
@@ -132,7 +132,7 @@ packet_band_of shape packets band number =
 -- the blocks of the precinct in this column and row of precincts
 unfoldable pub precinct_blocks : Shape → List (List PacketBand) → Band → ℕ → ℕ → List (List PacketBlock)
 precinct_blocks shape packets band px py =
-    let part = packet_band_of shape packets band (py * precinct_columns shape (resolution band) + px) in
+    let part = packet_band_of shape packets band (precinct_number shape (resolution band) px py) in
     grid_of part.columns part.rows part.blocks
 
 unfoldable pub band_blocks : Shape → List (List PacketBand) → Band → List (List PacketBlock)

@@ -10,7 +10,7 @@ ghost use Rattle.codec_terms.specs.Codestream.{block_places};
 ghost use Rattle.codec_terms.specs.Bands.{component_bands, all_bands, band_columns, band_rows, band_length, rank, band_place, band_values};
 ghost use Rattle.codec_terms.specs.Encode.{kept_coefficients};
 ghost use Rattle.codec_values.specs.Worked.{small, small_with, few};
-ghost use Rattle.codec_terms.specs.Precincts.{precinct_columns, precinct_rows, Precinct, comes_before, all_precincts, packet_order, OneGroup, HasPrecincts, part_at, block_columns, block_rows, blocks_at};
+ghost use Rattle.codec_terms.specs.Precincts.{precinct_columns, precinct_rows, Precinct, comes_before, all_precincts, packet_order, OneGroup, HasPrecincts, part_at, resolution, block_columns, block_rows, blocks_at, blocks_in, precinct_number};
 
 /// The sub-bands of a picture of 33 columns and 47 rows, and the order of all sub-bands.
 pub fn sub_band_values()
@@ -35,7 +35,8 @@ pub fn sub_band_laws()
 {}
 
 /// A grid is put together of the parts that it is divided into, as a sub-band's coefficients are of its code-blocks,
-/// and its code-blocks of those of its precincts. The blocks of a packet, in raster order, are such a part.
+/// and its code-blocks of those of its precincts. The blocks of a packet, in raster order, are such a part, and the
+/// number of its precinct says which.
 pub fn part_laws()
     ensures coefficients { (size columns rows : ℕ) (grid : List (List ℤ)) → 0 < size → 0 < columns
         → AllByRecursion (λ row. length row ≡ columns) grid → length grid ≡ rows
@@ -43,6 +44,8 @@ pub fn part_laws()
     ensures blocks { (size columns rows : ℕ) (grid : List (List PacketBlock)) → 0 < size → 0 < columns
         → AllByRecursion (λ row. length row ≡ columns) grid → length grid ≡ rows
         → of_parts (grid_with (div_ceil columns size) (div_ceil rows size) (part_at size columns rows grid)) ≡ grid }
+    ensures number { (shape : Shape) (band : Band) (px py : ℕ) → px < precinct_columns shape (resolution band)
+        → blocks_in shape band (precinct_number shape (resolution band) px py) ≡ blocks_at shape band px py }
     ensures packet { (f : ℕ → ℕ → PacketBlock) (shape : Shape) (band : Band) (px py : ℕ)
         → grid_of (blocks_at shape band px py).columns (blocks_at shape band px py).rows
         (map (λ place. f place.0 place.1) (block_places (blocks_at shape band px py)))
