@@ -7,6 +7,8 @@
 --     lowest_plane cut band                            the lowest bit-plane that is kept
 --     component_bands j, all_bands                     the sub-bands in the order in which coefficients
 --         are listed
+-- A sub-band has a level from 1 to 5, LL level 5, and a component from 0 to 2. For no other are these definitions
+-- meant.
 use Rattle.std.specs.Prelude.{ℕ, zero, suc, ◌+◌, ◌-◌, ◌*◌, ◌/◌, ◌^◌, ◌%◌, Bool, true, false, nat_lt, List, [], ◌∷◌, take, drop, sum_by, ℤ}
 use Rattle.std.specs.Int.{div_ceil, from_bool}
 use Rattle.std.specs.List.{flat_map}
@@ -69,10 +71,11 @@ range_bits HL = 13
 range_bits LH = 13
 range_bits HH = 14
 
--- the step in the units of the transformed samples, 2^-13
+-- the step in the units of the transformed samples, 2^-13; no exponent is above range_bits + 2
 abbrev pub step : Band → ℕ
 step band = 2 ^ (range_bits band.kind + 2 - exponent band) * (2048 + mantissa band)
 
+-- quantised values have no more bit-planes
 abbrev pub plane_limit : Band → ℕ
 plane_limit band = exponent band
 

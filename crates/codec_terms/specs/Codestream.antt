@@ -10,32 +10,33 @@ use Rattle.codec_terms.specs.declared.picture.Band.{Band}
 use Rattle.codec_terms.specs.declared.packet.PacketBlock.{PacketBlock}
 use Rattle.codec_terms.specs.declared.packet.PacketBand.{PacketBand}
 use Rattle.codec_terms.specs.Bits.{two_bytes, four_bytes}
-use Rattle.codec_terms.specs.Grid.{grid_of, items_of, part_of}
+use Rattle.codec_terms.specs.Grid.{grid_of, items_of}
 use Rattle.codec_terms.specs.Bands.{band_columns, band_rows, exponent, mantissa, plane_limit, lowest_plane, resolution_bands, component_bands, band_values}
-use Rattle.codec_terms.specs.Precincts.{BlockArea, group_length, blocks_in, Precinct, packet_order}
+use Rattle.codec_terms.specs.Precincts.{BlockArea, part_at, block_width, block_height, blocks_in, Precinct, packet_order}
 use Rattle.codec_terms.specs.Mq.{codeword}
-use Rattle.codec_terms.specs.BlockDecisions.{Block, plane_count, decisions, pass_count}
+use Rattle.codec_terms.specs.Passes.{pass_count}
+use Rattle.codec_terms.specs.BlockDecisions.{Block, plane_count, decisions}
 use Rattle.codec_terms.specs.PacketHeader.{packet}
 
 -- ---- code-blocks (Annex B.7)
 
--- block (bx, by) of a sub-band with these values, 32 columns and 32 rows or what is left of them
+-- block (bx, by) of a sub-band with these values, which is a part of their grid
 unfoldable pub block_of : Shape → Band → List ℤ → ℕ → ℕ → Block
 block_of shape band values bx by =
-    let width = group_length (band_columns shape band) 32 bx in
-    let height = group_length (band_rows shape band) 32 by in
+    let columns = band_columns shape band in
+    let rows = band_rows shape band in
     record {
       kind = band.kind;
-      width = width;
-      height = height;
-      values = items_of (part_of (32 * bx) (32 * by) width height
-          (grid_of (band_columns shape band) (band_rows shape band) values));
+      width = block_width shape band bx;
+      height = block_height shape band by;
+      values = items_of (part_at 32 columns rows (grid_of columns rows values) bx by);
     }
 
 abbrev pub not_included : PacketBlock
 not_included = record { included = false; zero_planes = 0; passes = 0; codeword = [] }
 
--- a block of n planes down to plane p
+-- A block's bit-planes down to plane p. It has at most as many as its sub-band, as quantised values have: with
+-- more, its zero planes would be counted as none.
 abbrev pub included_down_to : Band → Block → ℕ → PacketBlock
 included_down_to band block p =
     record {

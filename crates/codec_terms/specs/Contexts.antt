@@ -23,15 +23,15 @@ with_sample width set x y = slice_set set (y * width + x) true
 
 -- how many of the neighbours of (x, y) are in the set: left and right, above and below, and the four
 -- diagonal ones
-abbrev pub horizontal : ℕ → List Bool → ℕ → ℕ → ℕ
+unfoldable pub horizontal : ℕ → List Bool → ℕ → ℕ → ℕ
 horizontal width set x y =
     from_bool (is_in width set x (suc y)) + from_bool (is_in width set (suc (suc x)) (suc y))
 
-abbrev pub vertical : ℕ → List Bool → ℕ → ℕ → ℕ
+unfoldable pub vertical : ℕ → List Bool → ℕ → ℕ → ℕ
 vertical width set x y =
     from_bool (is_in width set (suc x) y) + from_bool (is_in width set (suc x) (suc (suc y)))
 
-abbrev pub diagonal : ℕ → List Bool → ℕ → ℕ → ℕ
+unfoldable pub diagonal : ℕ → List Bool → ℕ → ℕ → ℕ
 diagonal width set x y =
     from_bool (is_in width set x y) + from_bool (is_in width set (suc (suc x)) y)
     + from_bool (is_in width set x (suc (suc y)))
@@ -69,22 +69,22 @@ zero_context HL h v d = zero_context_low v h d
 zero_context LH h v d = zero_context_low h v d
 zero_context HH h v d = zero_context_high (h + v) d
 
-abbrev pub zero_context_at : BandKind → ℕ → List Bool → ℕ → ℕ → ℕ
+unfoldable pub zero_context_at : BandKind → ℕ → List Bool → ℕ → ℕ → ℕ
 zero_context_at kind width set x y =
     zero_context kind (horizontal width set x y) (vertical width set x y) (diagonal width set x y)
 
 -- ---- sign coding (tables D.2 and D.3)
 
 -- what a neighbour adds: 1 or -1 by its sign where it is significant
-abbrev pub contribution : ℕ → List Bool → List Bool → ℕ → ℕ → ℤ
+unfoldable pub contribution : ℕ → List Bool → List Bool → ℕ → ℕ → ℤ
 contribution width set negative x y =
     if is_in width set x y then (if is_in width negative x y then negsuc 0 else pos 1) else pos 0
 
-abbrev pub horizontal_sign : ℕ → List Bool → List Bool → ℕ → ℕ → ℤ
+unfoldable pub horizontal_sign : ℕ → List Bool → List Bool → ℕ → ℕ → ℤ
 horizontal_sign width set negative x y =
     contribution width set negative x (suc y) +ℤ contribution width set negative (suc (suc x)) (suc y)
 
-abbrev pub vertical_sign : ℕ → List Bool → List Bool → ℕ → ℕ → ℤ
+unfoldable pub vertical_sign : ℕ → List Bool → List Bool → ℕ → ℕ → ℤ
 vertical_sign width set negative x y =
     contribution width set negative (suc x) y +ℤ contribution width set negative (suc x) (suc (suc y))
 
@@ -108,7 +108,7 @@ sign_context (negsuc h) (pos (suc v)) = sign_row 11 true
 sign_context (negsuc h) (pos zero) = sign_row 12 true
 sign_context (negsuc h) (negsuc v) = sign_row 13 true
 
-abbrev pub sign_context_at : ℕ → List Bool → List Bool → ℕ → ℕ → SignContext
+unfoldable pub sign_context_at : ℕ → List Bool → List Bool → ℕ → ℕ → SignContext
 sign_context_at width set negative x y =
     sign_context (horizontal_sign width set negative x y) (vertical_sign width set negative x y)
 
@@ -123,7 +123,7 @@ refine_context true zero = 14
 refine_context true (suc n) = 15
 refine_context false n = 16
 
-abbrev pub refine_context_at : ℕ → List Bool → Bool → ℕ → ℕ → ℕ
+unfoldable pub refine_context_at : ℕ → List Bool → Bool → ℕ → ℕ → ℕ
 refine_context_at width set first x y =
     refine_context first (horizontal width set x y + vertical width set x y + diagonal width set x y)
 

@@ -12,6 +12,7 @@ pub mod MainReading
 pub mod Mq
 pub mod PacketHeader
 pub mod PacketReading
+pub mod Passes
 pub mod Precincts
 pub mod Quantiser
 pub mod Reading

@@ -12,6 +12,8 @@ use Rattle.codec_terms.specs.TagTree.{Tree, new_tree, leaf_bits, leaf_told}
 
 -- ---- passes and lengths (Annex B.10.6 and B.10.7)
 
+-- For 1 to 164 passes. The table has no codeword for none or for more, and no block needs one: with 15
+-- bit-planes at most it has at most 43.
 abbrev pub pass_bits : ℕ → List Bool
 pass_bits n = if nat_le n 1 then false ∷ []
     else if nat_le n 2 then true ∷ false ∷ []
@@ -19,7 +21,7 @@ pass_bits n = if nat_le n 1 then false ∷ []
     else if nat_le n 36 then replicate 4 true ++ low_bits 5 (n - 6)
     else replicate 9 true ++ low_bits 7 (n - 37)
 
--- by how much Lblock, which is 3 at first, must grow so that a length fits its field
+-- by how much Lblock, which is 3 at first, must grow so that a length fits its field; lengths are below 2^64
 abbrev pub growth : ℕ → ℕ → ℕ
 growth passes len = bit_length len - (3 + log2 passes)
 

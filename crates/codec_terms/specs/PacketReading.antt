@@ -11,6 +11,7 @@ use Rattle.codec_terms.specs.declared.packet.PacketRead.{PacketRead}
 use Rattle.codec_terms.specs.declared.packet.HeadRefusal.{HeadRefusal}
 use Rattle.codec_terms.specs.declared.packet.HeadRefusal.TheVariants.{Truncated, BadStuffing, TooManyPasses, LengthPast, WideLength}
 use Rattle.codec_terms.specs.Bits.{log2}
+use Rattle.codec_terms.specs.Passes.{pass_count}
 use Rattle.codec_terms.specs.TagTree.{FoundTree, blank_tree, wants, pushed, leaf_value}
 use Rattle.codec_terms.specs.Reading.{Steps, done, on_ok, ◌>>=◌}
 
@@ -129,7 +130,7 @@ module _ (bytes : List ℕ) where
 
   abbrev pub passes_checked : ℕ → ℕ → Bits ℕ
   passes_checked planes passes =
-      if nat_lt (3 * planes - 2) passes then refused_here (λ at. TooManyPasses at passes) else done passes
+      if nat_lt (pass_count planes) passes then refused_here (λ at. TooManyPasses at passes) else done passes
 
   abbrev pub included_read : ℕ → ℕ → FoundTree → Bits BlockHead
   included_read mb at planes = do

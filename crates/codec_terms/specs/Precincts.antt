@@ -2,6 +2,8 @@
 -- one tile and one layer.
 --     resolution_columns shape r      the size of resolution r; likewise rows
 --     precinct_columns shape r        how many precincts resolution r has in a row; likewise rows
+--     part_at size columns rows grid x y     a part of a grid: the blocks of a precinct, the samples of a block
+--     block_width shape band bx       the width of a code-block; likewise height
 --     blocks_in shape band precinct   the code-blocks of a precinct in a sub-band
 --     packet_order shape              the packets of a component in their order
 use Rattle.std.specs.Prelude.{◌≡◌, ◌<◌, ◌≤◌, ℕ, zero, suc, ◌+◌, ◌-◌, ◌*◌, ◌/◌, ◌^◌, ◌%◌, ◌==◌, Bool, ◌&&◌, ◌||◌, if◌then◌else◌, nat_lt, min, List, [], ◌∷◌, map}
@@ -11,9 +13,10 @@ use Rattle.codec_terms.specs.declared.picture.Shape.{Shape}
 use Rattle.codec_terms.specs.declared.picture.Band.{Band}
 use Rattle.codec_terms.specs.declared.picture.BandKind.{BandKind}
 use Rattle.codec_terms.specs.declared.picture.BandKind.TheVariants.{LL}
+use Rattle.codec_terms.specs.Grid.{part_of}
 use Rattle.codec_terms.specs.Bands.{band_columns, band_rows}
 
--- ---- precincts (equations B-14 and B-16)
+-- ---- precincts (equations B-14 and B-16) of resolutions 0 to 5
 
 abbrev pub resolution_columns : Shape → ℕ → ℕ
 resolution_columns shape r = div_ceil shape.width (2 ^ (5 - r))
@@ -52,6 +55,11 @@ pub record BlockArea : Type 0 where
 abbrev pub group_length : ℕ → ℕ → ℕ → ℕ
 group_length n size group = min size (n - size * group)
 
+-- part (x, y) of a grid of so many columns and rows, which is divided into parts of size columns and size rows
+abbrev pub part_at : {A : Type 0} → ℕ → ℕ → ℕ → List (List A) → ℕ → ℕ → List (List A)
+part_at size columns rows grid x y =
+    part_of (size * x) (size * y) (group_length columns size x) (group_length rows size y) grid
+
 -- thing x is in this group, and x is in exactly one of the groups that n things make
 abbrev pub IsInGroup : ℕ → ℕ → ℕ → ℕ → Type 0
 IsInGroup n size x group = (size * group ≤ x) × (x < size * group + group_length n size group)
@@ -68,6 +76,13 @@ block_columns shape band = div_ceil (band_columns shape band) 32
 abbrev pub block_rows : Shape → Band → ℕ
 block_rows shape band = div_ceil (band_rows shape band) 32
 
+-- the columns of block (bx, by), and its rows: 32, or what is left of the sub-band
+abbrev pub block_width : Shape → Band → ℕ → ℕ
+block_width shape band bx = group_length (band_columns shape band) 32 bx
+
+abbrev pub block_height : Shape → Band → ℕ → ℕ
+block_height shape band by = group_length (band_rows shape band) 32 by
+
 abbrev pub blocks_at : Shape → Band → ℕ → ℕ → BlockArea
 blocks_at shape band px py =
     record {
@@ -82,7 +97,10 @@ pub record HasPrecincts (shape : Shape) (band : Band) : Type 0 where
   pub in_columns : block_columns shape band ≤ 4 * precinct_columns shape (resolution band)
   pub in_rows : block_rows shape band ≤ 4 * precinct_rows shape (resolution band)
 
--- precincts are numbered in raster order
+-- precincts of a resolution are numbered in raster order; the one in column px and row py has this number
+abbrev pub precinct_number : Shape → ℕ → ℕ → ℕ → ℕ
+precinct_number shape r px py = py * precinct_columns shape r + px
+
 abbrev pub blocks_in : Shape → Band → ℕ → BlockArea
 blocks_in shape band precinct =
     let across = precinct_columns shape (resolution band) in

@@ -1,9 +1,10 @@
 -- Decoding a codestream to its quantised coefficients: ITU-T T.800 in this profile.
 --     stream_read bytes     the coefficients, or the first refusal by place; at one place one of markers
 --         comes first, then one of packets, then one of parts
--- Bit-planes that weren't coded are zero.
-use Rattle.std.specs.Prelude.{ℕ, suc, ◌+◌, ◌-◌, ◌*◌, ◌/◌, ◌%◌, ◌==◌, Bool, not, ◌&&◌, if◌then◌else◌, nat_lt, List, [], ◌∷◌, map, length, slice_index, slice_index_or, ℤ, pos, Option, Some, None, Result, Ok, Err, find, zip, sum_by, count_by}
-use Rattle.std.specs.List.{flat_map, range_with_len}
+-- Bit-planes that weren't coded are zero. A sub-band's blocks are put together from the parts of its precincts,
+-- and its coefficients from those of its blocks.
+use Rattle.std.specs.Prelude.{ℕ, suc, ◌+◌, ◌-◌, ◌==◌, Bool, not, ◌&&◌, if◌then◌else◌, nat_lt, List, [], ◌∷◌, map, length, slice_index, slice_index_or, ℤ, Option, Some, None, Result, Ok, Err, find, zip, sum_by, count_by}
+use Rattle.std.specs.List.{flat_map}
 use Rattle.codec_terms.specs.declared.picture.Shape.{Shape}
 use Rattle.codec_terms.specs.declared.picture.Band.{Band}
 use Rattle.codec_terms.specs.declared.packet.PacketBlock.{PacketBlock}
@@ -16,13 +17,16 @@ use Rattle.codec_terms.specs.declared.reading.MarkerRefusal.{MarkerRefusal}
 use Rattle.codec_terms.specs.declared.reading.ReadRefusal.{ReadRefusal}
 use Rattle.codec_terms.specs.declared.reading.ReadRefusal.TheVariants.{Marker, Head, PartLength, After}
 use Rattle.codec_terms.specs.declared.reading.Coefficients.{Coefficients}
-use Rattle.codec_terms.specs.Bands.{band_columns, band_rows, band_place, resolution_bands, all_bands}
-use Rattle.codec_terms.specs.Precincts.{group_length, block_columns, block_rows, blocks_in, Precinct, precinct_columns, resolution, packet_order}
+use Rattle.codec_terms.specs.declared.picture.BandKind.{BandKind}
+use Rattle.codec_terms.specs.declared.picture.BandKind.TheVariants.{LL, HL, LH, HH}
+use Rattle.codec_terms.specs.Grid.{grid_of, items_of, grid_with, with_places, of_parts}
+use Rattle.codec_terms.specs.Bands.{kind_place, resolution_bands, component_bands}
+use Rattle.codec_terms.specs.Precincts.{block_width, block_height, blocks_in, Precinct, precinct_columns, precinct_rows, precinct_number, resolution, packet_order}
 use Rattle.codec_terms.specs.BlockReading.{block_read}
 use Rattle.codec_terms.specs.Reading.{on_ok}
 use Rattle.codec_terms.specs.PacketReading.{packet_read}
 use Rattle.codec_terms.specs.MainReading.{fixed, fields_end, marker_at, main_read}
-use Rattle.codec_terms.specs.Codestream.{not_included}
+use Rattle.codec_terms.specs.Codestream.{components}
 
 abbrev pub marker_step : {A : Type 0} → Result A MarkerRefusal → Result A ReadRefusal
 marker_step (Ok a) = Ok a
@@ -34,11 +38,14 @@ head_step (Err e) = Err (Head e)
 
 -- ---- packets of a component
 
--- the numbers of bit-planes stand in the order of a component's sub-bands, and are the same in each component
+-- how many bit-planes the main header gives a sub-band, in the same order for each component
+abbrev pub stated_planes : MainHead → Band → ℕ
+stated_planes head band = slice_index head.mb (kind_place band.level band.kind)
+
 abbrev pub band_shape : MainHead → ℕ → Band → BandShape
 band_shape head precinct band =
     let area = blocks_in head.shape band precinct in
-    record { columns = area.columns; rows = area.rows; mb = slice_index head.mb (band_place band % 16) }
+    record { columns = area.columns; rows = area.rows; mb = stated_planes head band }
 
 abbrev pub precinct_shapes : MainHead → ℕ → Precinct → List BandShape
 precinct_shapes head component precinct =
@@ -93,77 +100,65 @@ tile_part_read bytes head component at =
 unfoldable pub parts_read : List ℕ → MainHead → List ℕ → ℕ
     → Result (List (List (List PacketBand)) × ℕ) ReadRefusal
 parts_read bytes head [] at = Ok ([], at)
-parts_read bytes head (component ∷ components) at =
+parts_read bytes head (component ∷ later) at =
     on_ok (tile_part_read bytes head component at) (λ (r : List (List PacketBand) × ℕ).
-    on_ok (parts_read bytes head components r.1) (λ rest.
+    on_ok (parts_read bytes head later r.1) (λ rest.
     Ok (r.0 ∷ rest.0, rest.1)))
 
--- ---- coefficients
+-- ---- the code-blocks of a sub-band (Annex B.7), of which each precinct has a part
 
--- the packet of a precinct, and in it the blocks of a sub-band
+-- which of a packet's sub-bands this one is
+abbrev pub place_in_packet : BandKind → ℕ
+place_in_packet LL = 0
+place_in_packet HL = 0
+place_in_packet LH = 1
+place_in_packet HH = 2
+
 abbrev pub is_precinct : ℕ → ℕ → Precinct × List PacketBand → Bool
 is_precinct r number p = ((p.0).resolution == r) && ((p.0).number == number)
 
 abbrev pub no_band : PacketBand
 no_band = record { columns = 0; rows = 0; blocks = [] }
 
--- of three sub-bands of a resolution, or of the one of resolution 0, which this is
-abbrev pub place_in_packet : Band → ℕ
-place_in_packet band = (band_place band % 16 + 2) % 3
+abbrev pub band_in : BandKind → Option (Precinct × List PacketBand) → PacketBand
+band_in kind None = no_band
+band_in kind (Some p) = slice_index_or p.1 (place_in_packet kind) no_band
 
-abbrev pub band_in : Band → Option (Precinct × List PacketBand) → PacketBand
-band_in band None = no_band
-band_in band (Some p) = slice_index_or p.1 (if resolution band == 0 then 0 else place_in_packet band) no_band
-
+-- what the packet of a precinct has of a sub-band
 unfoldable pub packet_band_of : Shape → List (List PacketBand) → Band → ℕ → PacketBand
 packet_band_of shape packets band number =
-    band_in band (find (is_precinct (resolution band) number) (zip (packet_order shape) packets))
+    band_in band.kind (find (is_precinct (resolution band) number) (zip (packet_order shape) packets))
 
--- block (bx, by) of a sub-band
-abbrev pub block_in : PacketBand → ℕ → ℕ → PacketBlock
-block_in band x y = slice_index_or band.blocks (y * band.columns + x) not_included
+-- the blocks of the precinct in this column and row of precincts
+unfoldable pub precinct_blocks : Shape → List (List PacketBand) → Band → ℕ → ℕ → List (List PacketBlock)
+precinct_blocks shape packets band px py =
+    let part = packet_band_of shape packets band (precinct_number shape (resolution band) px py) in
+    grid_of part.columns part.rows part.blocks
 
-unfoldable pub read_block : Shape → List (List PacketBand) → Band → ℕ → ℕ → PacketBlock
-read_block shape packets band bx by =
-    block_in (packet_band_of shape packets band
-    (by / 4 * precinct_columns shape (resolution band) + bx / 4)) (bx % 4) (by % 4)
+unfoldable pub band_blocks : Shape → List (List PacketBand) → Band → List (List PacketBlock)
+band_blocks shape packets band =
+    of_parts (grid_with (precinct_columns shape (resolution band)) (precinct_rows shape (resolution band))
+    (precinct_blocks shape packets band))
 
--- its values; those of a block that isn't included are zero
-unfoldable pub block_values : Shape → ℕ → Band → PacketBlock → ℕ → ℕ → List ℤ
-block_values shape mb band block bx by =
-    block_read (record {
-      kind = band.kind;
-      width = group_length (band_columns shape band) 32 bx;
-      height = group_length (band_rows shape band) 32 by;
-    }) (mb - block.zero_planes) block.passes
-    block.codeword
+-- ---- the coefficients of a sub-band, of which each code-block has a part
 
-abbrev pub blocks_row : Shape → ℕ → List (List PacketBand) → Band → ℕ → List (List ℤ)
-blocks_row shape mb packets band by =
-    map (λ bx. block_values shape mb band (read_block shape packets band bx by) bx by)
-    (range_with_len 0 (block_columns shape band))
+-- those of block (bx, by), which are zero where it isn't included
+unfoldable pub block_values : Shape → ℕ → Band → ℕ → ℕ → PacketBlock → List (List ℤ)
+block_values shape mb band bx by block =
+    let width = block_width shape band bx in
+    let height = block_height shape band by in
+    grid_of width height (block_read (record { kind = band.kind; width = width; height = height })
+    (mb - block.zero_planes) block.passes block.codeword)
 
--- the values of all blocks of a sub-band, as a grid of blocks
-unfoldable pub blocks_grid : Shape → ℕ → List (List PacketBand) → Band → List (List (List ℤ))
-blocks_grid shape mb packets band =
-    map (blocks_row shape mb packets band) (range_with_len 0 (block_rows shape band))
+unfoldable pub band_read_values : MainHead → List (List PacketBand) → Band → List ℤ
+band_read_values head packets band =
+    items_of (of_parts (with_places (block_values head.shape (stated_planes head band) band)
+    (band_blocks head.shape packets band)))
 
--- the coefficient in column x and row y is in block (x / 32, y / 32)
-abbrev pub coefficient_at : Shape → Band → List (List (List ℤ)) → ℕ → ℕ → ℤ
-coefficient_at shape band blocks y x =
-    slice_index_or (slice_index_or (slice_index_or blocks (y / 32) []) (x / 32) [])
-    (y % 32 * group_length (band_columns shape band) 32 (x / 32) + x % 32) (pos 0)
+-- ---- all coefficients
 
-abbrev pub coefficients_of_blocks : Shape → Band → List (List (List ℤ)) → List ℤ
-coefficients_of_blocks shape band blocks =
-    flat_map (λ y. map (coefficient_at shape band blocks y) (range_with_len 0 (band_columns shape band)))
-    (range_with_len 0 (band_rows shape band))
-
-unfoldable pub band_read_values : MainHead → List (List (List PacketBand)) → Band → List ℤ
-band_read_values head parts band =
-    let packets = slice_index_or parts band.component [] in
-    let blocks = blocks_grid head.shape (slice_index head.mb (band_place band % 16)) packets band in
-    coefficients_of_blocks head.shape band blocks
+abbrev pub component_read_values : MainHead → ℕ × List (List PacketBand) → List ℤ
+component_read_values head part = flat_map (band_read_values head part.1) (component_bands part.0)
 
 abbrev pub included_in : PacketBand → ℕ
 included_in band = count_by (λ (block : PacketBlock). block.included) band.blocks
@@ -174,7 +169,7 @@ included_count parts = sum_by (λ packets. sum_by (λ bands. sum_by included_in 
 abbrev pub coefficients_read : MainHead → List (List (List PacketBand)) → Coefficients
 coefficients_read head parts = record {
   shape = head.shape;
-  values = flat_map (band_read_values head parts) all_bands;
+  values = flat_map (component_read_values head) (zip components parts);
   cut = head.cut;
   parts = head.parts;
   blocks = included_count parts;
@@ -189,6 +184,6 @@ end_read bytes at = if nat_lt (at + 2) (length bytes) then Err (After (at + 2)) 
 unfoldable pub stream_read : List ℕ → Result Coefficients ReadRefusal
 stream_read bytes =
     on_ok (marker_step (main_read bytes)) (λ (head : MainHead).
-    on_ok (parts_read bytes head (0 ∷ 1 ∷ 2 ∷ []) head.next) (λ (r : List (List (List PacketBand)) × ℕ).
+    on_ok (parts_read bytes head components head.next) (λ (r : List (List (List PacketBand)) × ℕ).
     on_ok (end_read bytes r.1) (λ next.
     Ok (coefficients_read head r.0))))

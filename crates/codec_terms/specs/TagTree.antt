@@ -4,9 +4,20 @@
 --         threshold t, and which it then is
 --     leaf_told t tree at              the tree when these bits were sent
 --     wants t tree at, pushed bit t tree at, leaf_value tree at    what a reader of these bits knows
-use Rattle.std.specs.Prelude.{ℕ, zero, suc, ◌+◌, ◌-◌, ◌/◌, ◌^◌, ◌%◌, ◌==◌, min, max, Bool, true, false, not, ◌&&◌, ◌||◌, if◌then◌else◌, nat_lt, List, [], ◌∷◌, ◌++◌, map, length, replicate, Option, Some, None}
+-- Leaves are numbered in raster order, below columns * rows, and have as many values. An empty grid has no
+-- leaf, and its tree no level.
+use Rattle.std.specs.Prelude.{ℕ, zero, suc, ◌+◌, ◌-◌, ◌/◌, ◌^◌, ◌%◌, ◌==◌, min, max, Bool, true, false, not, ◌&&◌, ◌||◌, if◌then◌else◌, nat_lt, nat_le, List, [], ◌∷◌, ◌++◌, map, length, replicate, Option, Some, None}
 use Rattle.std.specs.Int.{div_ceil}
 use Rattle.codec_terms.specs.Grid.{grid_of, grid_item, with_grid_item}
+
+-- ---- levels: each has half the columns and half the rows of the one below it, rounded up
+
+abbrev pub is_empty : ℕ → ℕ → Bool
+is_empty columns rows = columns == 0 || rows == 0
+
+-- the root's level has at most one column and at most one row
+abbrev pub is_root : ℕ → ℕ → Bool
+is_root columns rows = nat_le columns 1 && nat_le rows 1
 
 -- ---- the tree of values: each node is the least of its children
 
@@ -25,20 +36,21 @@ parents [] = []
 parents (row ∷ []) = pairs_joined row ∷ []
 parents (upper ∷ lower ∷ rows) = pairs_joined (least_of_each upper lower) ∷ parents rows
 
-abbrev pub is_one_node : List (List ℕ) → Bool
-is_one_node ((a ∷ []) ∷ []) = true
-is_one_node _ = false
-
--- The levels above a level, the root's first, in front of the levels from it down. A level of n columns
--- and rows has at most n above it.
-unfoldable pub levels_from : ℕ → List (List ℕ) → List (List (List ℕ)) → List (List (List ℕ))
-levels_from zero level below = level ∷ below
-levels_from (suc n) level below =
-    elim (is_one_node level)
-    [ true ↦ level ∷ below | false ↦ levels_from n (parents level) (level ∷ below) ]
+-- The levels above a level of so many columns and rows, the root's first, in front of the levels from it
+-- down. A level has at most as many above it as it has columns and rows together.
+unfoldable pub levels_from : ℕ → ℕ → ℕ → List (List ℕ) → List (List (List ℕ)) → List (List (List ℕ))
+levels_from zero columns rows level below = level ∷ below
+levels_from (suc n) columns rows level below =
+    elim (is_root columns rows) [
+      | true ↦ level ∷ below
+      | false ↦ levels_from n (div_ceil columns 2) (div_ceil rows 2) (parents level) (level ∷ below)
+    ]
 
 abbrev pub value_levels : ℕ → ℕ → List ℕ → List (List (List ℕ))
-value_levels columns rows values = levels_from (columns + rows) (grid_of columns rows values) []
+value_levels columns rows values =
+    if is_empty columns rows
+    then []
+    else levels_from (columns + rows) columns rows (grid_of columns rows values) []
 
 -- ---- what is sent
 
@@ -99,7 +111,6 @@ path_told t low x y (level ∷ below) =
     with_grid_item level (x / 2 ^ length below) (y / 2 ^ length below) told
     ∷ path_told t told.reached x y below
 
--- leaves are numbered in raster order
 abbrev pub leaf_bits : ℕ → Tree → ℕ → List Bool
 leaf_bits t tree at = path_bits t 0 (at % tree.columns) (at / tree.columns) tree.levels
 
@@ -130,15 +141,17 @@ blank_grid columns rows = replicate rows (replicate columns nothing_found)
 unfoldable pub blank_levels : ℕ → ℕ → ℕ → List (List (List Found)) → List (List (List Found))
 blank_levels zero columns rows below = blank_grid columns rows ∷ below
 blank_levels (suc n) columns rows below =
-    elim (columns == 1 && rows == 1) [
-      | true ↦ blank_grid columns rows
-          ∷ below
-      | false ↦ blank_levels n (div_ceil columns 2) (div_ceil rows 2)
-          (blank_grid columns rows ∷ below)
+    elim (is_root columns rows) [
+      | true ↦ blank_grid columns rows ∷ below
+      | false ↦ blank_levels n (div_ceil columns 2) (div_ceil rows 2) (blank_grid columns rows ∷ below)
     ]
 
 unfoldable pub blank_tree : ℕ → ℕ → FoundTree
-blank_tree columns rows = record { columns = columns; levels = blank_levels (columns + rows) columns rows [] }
+blank_tree columns rows =
+    record {
+      columns = columns;
+      levels = if is_empty columns rows then [] else blank_levels (columns + rows) columns rows [];
+    }
 
 abbrev pub found_above : List (List Found) → ℕ → ℕ → ℕ → Found
 found_above level depth x y =

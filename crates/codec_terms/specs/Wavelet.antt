@@ -29,7 +29,8 @@ unfoldable pub component : (ℤ → ℤ → ℤ → ℤ) → List ℕ → List �
 component f (x ∷ xs) (y ∷ ys) (z ∷ zs) = f (shifted x) (shifted y) (shifted z) ∷ component f xs ys zs
 component f _ _ _ = []
 
--- ---- one line (Annex F.4.8.2)
+-- ---- one line (Annex F.4.8.2), which has two samples or more; so it is in all five levels of a picture of at
+-- least 17 columns and 17 rows
 
 -- the sample before place i and the one behind it, in a line of n: an index outside is reflected at the
 -- end (Annex F.4.7)

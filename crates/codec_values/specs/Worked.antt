@@ -1,5 +1,5 @@
 -- The inputs of worked values.
-use Rattle.std.specs.Prelude.{ℕ, Bool, true, false, List, [], ◌∷◌, map, ℤ, pos, negsuc, Result, Ok, Err}
+use Rattle.std.specs.Prelude.{ℕ, ◌*◌, ◌%◌, Bool, true, false, List, [], ◌∷◌, ◌++◌, map, take, slice_set, replicate, ℤ, pos, negsuc, ◌-ℤ◌, Result, Ok, Err}
 use Rattle.codec_terms.specs.declared.picture.Shape.{Shape}
 use Rattle.codec_terms.specs.declared.picture.Band.{Band}
 use Rattle.codec_terms.specs.declared.picture.BandKind.{BandKind}
@@ -8,10 +8,11 @@ use Rattle.codec_terms.specs.declared.packet.PacketBlock.{PacketBlock}
 use Rattle.codec_terms.specs.declared.packet.PacketBand.{PacketBand}
 use Rattle.codec_terms.specs.declared.packet.BandShape.{BandShape}
 use Rattle.codec_terms.specs.declared.packet.HeadRefusal.{HeadRefusal}
+use Rattle.codec_terms.specs.Grid.{items_of}
 use Rattle.codec_terms.specs.Bands.{resolution_bands}
 use Rattle.codec_terms.specs.Precincts.{BlockArea, block_columns, block_rows, blocks_in, Precinct, packet_order}
 use Rattle.codec_terms.specs.Codestream.{block_places}
-use Rattle.codec_terms.specs.StreamReading.{read_block}
+use Rattle.codec_terms.specs.StreamReading.{band_blocks}
 use Rattle.codec_terms.specs.Mq.{Decision}
 use Rattle.codec_terms.specs.PacketHeader.{pass_bits, packed}
 use Rattle.codec_terms.specs.PacketReading.{BitPlace, pass_count_read}
@@ -93,9 +94,9 @@ labelled_packet shape precinct = map (labelled_band shape precinct.number) (reso
 abbrev pub labelled_packets : Shape → List (List PacketBand)
 labelled_packets shape = map (labelled_packet shape) (packet_order shape)
 
--- what a reader finds at each place of a sub-band, and the places
-abbrev pub label_found : Shape → Band → ℕ × ℕ → List ℕ
-label_found shape band place = (read_block shape (labelled_packets shape) band place.0 place.1).codeword
+-- what a reader finds in the blocks of a sub-band, in raster order, and their places
+abbrev pub label_found : PacketBlock → List ℕ
+label_found block = block.codeword
 
 abbrev pub label_of : ℕ × ℕ → List ℕ
 label_of place = place.0 ∷ place.1 ∷ []
@@ -104,7 +105,7 @@ abbrev pub whole_area : Shape → Band → BlockArea
 whole_area shape band = record { x = 0; y = 0; columns = block_columns shape band; rows = block_rows shape band }
 
 abbrev pub labels_found : Shape → Band → List (List ℕ)
-labels_found shape band = map (label_found shape band) (block_places (whole_area shape band))
+labels_found shape band = map label_found (items_of (band_blocks shape (labelled_packets shape) band))
 
 abbrev pub labels : Shape → Band → List (List ℕ)
 labels shape band = map label_of (block_places (whole_area shape band))
@@ -138,3 +139,34 @@ zero_stream =
     ∷ 0xFF ∷ 0x90 ∷ 0x00 ∷ 0x0A ∷ 0x00 ∷ 0x00 ∷ 0x00 ∷ 0x00 ∷ 0x00 ∷ 0x14 ∷ 0x02 ∷ 0x03 ∷ 0xFF ∷ 0x93 ∷ 0x00
     ∷ 0x00 ∷ 0x00 ∷ 0x00 ∷ 0x00 ∷ 0x00
     ∷ 0xFF ∷ 0xD9 ∷ []
+
+-- ---- the same with a few coefficients: one in LL of component 0 and two side by side in its HL of level 3, one
+-- in HH of level 1 of component 1, one in HL of level 4 of component 2
+
+abbrev pub small_with : ℤ → ℤ → ℤ → ℤ → ℤ → List ℤ
+small_with a b c d e =
+    slice_set (slice_set (slice_set (slice_set (slice_set (replicate 3072 (pos 0)) 0 a) 21 b) 22 c) 1829 d) 2052 e
+
+abbrev pub few : List ℤ
+few = small_with (negsuc 1233) (pos 5) (negsuc 2) (pos 1) (negsuc 1)
+
+-- the least coefficient of the sub-band from which cuts take bit-planes away first
+abbrev pub first_to_go : List ℤ
+first_to_go = slice_set (replicate 3072 (pos 0)) 1792 (pos 1)
+
+-- samples of all sizes, in no order
+abbrev pub scattered : ℕ → ℤ
+scattered n = pos (n * 1000003 % 16777216) -ℤ pos 8388608
+
+-- its codestream at cut 0: the main header of the zero stream with other lengths, then the tile-parts
+abbrev pub few_header : List ℕ
+few_header = slice_set (slice_set (slice_set (take 143 zero_stream) 118 31) 123 24) 128 25
+
+abbrev pub few_stream : List ℕ
+few_stream =
+    few_header
+    ++ 0xFF ∷ 0x90 ∷ 0x00 ∷ 0x0A ∷ 0x00 ∷ 0x00 ∷ 0x00 ∷ 0x00 ∷ 0x00 ∷ 0x1F ∷ 0x00 ∷ 0x03 ∷ 0xFF ∷ 0x93 ∷ 0xC7 ∷ 0xF2 ∷ 0x04 ∷ 0x06 ∷ 0xBA ∷ 0x00 ∷ 0x00 ∷ 0xC0 ∷ 0x0F ∷ 0x84 ∷ 0x40 ∷ 0x16 ∷ 0xAD ∷ 0xFF ∷ 0x57 ∷ 0x00 ∷ 0x00
+    ∷ 0xFF ∷ 0x90 ∷ 0x00 ∷ 0x0A ∷ 0x00 ∷ 0x00 ∷ 0x00 ∷ 0x00 ∷ 0x00 ∷ 0x18 ∷ 0x01 ∷ 0x03 ∷ 0xFF ∷ 0x93 ∷ 0x00 ∷ 0x00 ∷ 0x00 ∷ 0x00 ∷ 0x00 ∷ 0x90 ∷ 0x01 ∷ 0x10 ∷ 0x2D ∷ 0xE4
+    ∷ 0xFF ∷ 0x90 ∷ 0x00 ∷ 0x0A ∷ 0x00 ∷ 0x00 ∷ 0x00 ∷ 0x00 ∷ 0x00 ∷ 0x19 ∷ 0x02 ∷ 0x03 ∷ 0xFF ∷ 0x93 ∷ 0x00 ∷ 0x00 ∷ 0xC0 ∷ 0x03 ∷ 0xA1 ∷ 0x00 ∷ 0x07 ∷ 0xDF ∷ 0x00 ∷ 0x00 ∷ 0x00
+    ∷ 0xFF ∷ 0xD9
+    ∷ []

@@ -24,11 +24,13 @@ pub fn header_laws()
     ensures { (bits : List Bool) → ends_with_ff (packed bits) ≡ false }
 {}
 
-/// Two leaves, of which the first has value 0 and the second isn't below 1.
+/// Two leaves, of which the first has value 0 and the second isn't below 1; and trees over no leaf.
 pub fn tag_tree_values()
     ensures written { leaves_bits 1 (new_tree 2 1 (0 ∷ 1 ∷ [])) (0 ∷ 1 ∷ []) ≡ true ∷ true ∷ false ∷ [] }
     ensures wanted { wants 1 (blank_tree 2 1) 0 ≡ true }
     ensures first { leaf_value (pushed false 1 (pushed true 1 (pushed true 1 (blank_tree 2 1) 0) 0) 1) 0 ≡ Some 0 }
+    ensures empty { (new_tree 0 4 []).levels ≡ [] }
+    ensures empty_blank { (blank_tree 0 4).levels ≡ [] }
     ensures second { leaf_value (pushed false 1 (pushed true 1 (pushed true 1 (blank_tree 2 1) 0) 0) 1) 1 ≡ None }
 {}
 

@@ -19,6 +19,10 @@ pub returns-clause-no_decision : goal.returns-clause-no_decision
 unfolding computed_blocks
 returns-clause-no_decision c = refl
 
+pub returns-clause-order : goal.returns-clause-order
+unfolding computed_blocks
+returns-clause-order c = refl
+
 pub returns-clause-full_planes : goal.returns-clause-full_planes
 unfolding computed_blocks
 returns-clause-full_planes c = refl

@@ -18,3 +18,11 @@ returns-clause-first c = refl
 pub returns-clause-second : goal.returns-clause-second
 unfolding computed_pictures computed_packets
 returns-clause-second c = refl
+
+pub returns-clause-empty : goal.returns-clause-empty
+unfolding computed_pictures computed_packets
+returns-clause-empty c = refl
+
+pub returns-clause-empty_blank : goal.returns-clause-empty_blank
+unfolding computed_pictures computed_packets
+returns-clause-empty_blank c = refl

@@ -1,0 +1,8 @@
+-- The value computes.
+use Rattle.std.proofs.Common.{refl}
+use Rattle.codec_values.proofs.Computed.{computed_pictures}
+use Rattle.codec_values.proofs.transform.level_values.Goals as goal
+
+pub returns : goal.returns
+unfolding computed_pictures
+returns c = refl
