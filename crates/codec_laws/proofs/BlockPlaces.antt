@@ -1,0 +1,89 @@
+-- Each code-block of a sub-band stands in one precinct, and the code-blocks give the sub-band back.
+use Rattle.std.proofs.Common.{◌≡◌, ℕ, zero, suc, ◌+◌, ◌*◌, ◌-◌, ◌/◌, ◌%◌, ◌<◌, ◌≤◌, refl, sym, ap, ap₂, subst, ◌∙◌, arith, Bool, true, false, List, [], ◌∷◌, ◌++◌, length, map, take, drop, get_or, min, All, ℤ, pos}
+use Rattle.std.specs.Int.{div_ceil}
+use Rattle.std.specs.List.{flat_map, range_with_len, AllByRecursion}
+use Rattle.std.proofs.lemmas.Nat.{mul-add-lt, div-mul-add, mod-mul-add}
+use Rattle.std.proofs.lemmas.List.{length-map, length-append, length-drop, length-take-le, get_or-take, get_or-drop, get_or_append_left, get_or-append_right, get_or-map}
+use Rattle.std.proofs.lemmas.List.FromFn.{length-range_with_len, length-map-range_with_len, get_or-map-range_with_len, get_or-range_with_len, fill_by_all}
+use Rattle.std.proofs.lemmas.List.Elements.{All-nil, All-cons, All-head, All-tail, All-map, All-weaker, All-from_recursion}
+use Rattle.codec_terms.specs.declared.picture.Shape.{Shape}
+use Rattle.codec_terms.specs.declared.picture.Band.{Band}
+use Rattle.codec_terms.specs.Bands.{band_columns, band_rows, all_bands, component_bands}
+use Rattle.codec_terms.specs.Grid.{grid_of, items_of, part_of}
+use Rattle.codec_terms.specs.Precincts.{BlockArea, group_length, block_columns, block_rows, precinct_columns, precinct_rows, resolution, blocks_at, blocks_in, HasPrecincts}
+use Rattle.codec_terms.specs.Codestream.{block_of, row_places, block_places, packet_band}
+use Rattle.codec_terms.specs.StreamReading.{coefficient_at, coefficients_of_blocks}
+use Rattle.codec_terms.proofs.BlockLaws.{has_precincts}
+use Rattle.codec_laws.specs.Bounds.{IsRowOf, IsGridOf}
+use Rattle.codec_laws.specs.Places.{IsInArea, OnePrecinct}
+use Rattle.codec_laws.proofs.Lists.{All-flat_map, All-each, All-from_range}
+
+-- ---- precincts
+
+-- along a side: x is in the group x / 4, and in no other
+in_group : (n x : ℕ) → x < n → x < 4 * (x / 4) + group_length n 4 (x / 4)
+in_group n x inside = omega arith
+
+one_group : (n x g : ℕ) → 4 * g ≤ x → x < 4 * g + group_length n 4 g → g ≡ x / 4
+one_group n x g low high = omega arith
+
+place_below : (g h m n : ℕ) → g < m → h < n → h * m + g < m * n
+place_below g h m n p q = mul-add-lt h m g n q p
+
+-- a place's row and column make it
+place_of : (n m : ℕ) → n ≡ n / m * m + n % m
+place_of n m = omega arith
+
+same_place : (n m g h : ℕ) → n % m ≡ g → n / m ≡ h → n ≡ h * m + g
+same_place n m g h p q = place_of n m ∙ ap₂ (λ (a b : ℕ). b * m + a) p q
+
+one_precinct : (shape : Shape) (band : Band) (x y : ℕ) → HasPrecincts shape band → x < block_columns shape band → y < block_rows shape band → OnePrecinct shape band x y
+one_precinct shape band x y has wide high =
+    let across = precinct_columns shape (resolution band) in
+    let down = precinct_rows shape (resolution band) in
+    let column : x / 4 < across = omega (arith, has.in_columns) in
+    let row : y / 4 < down = omega (arith, has.in_rows) in
+    let column_is : (y / 4 * across + x / 4) % across ≡ x / 4 = mod-mul-add (y / 4) across (x / 4) column in
+    let row_is : (y / 4 * across + x / 4) / across ≡ y / 4 = div-mul-add (y / 4) across (x / 4) column in
+    record {
+      number = y / 4 * across + x / 4;
+      counted = place_below (x / 4) (y / 4) across down column row;
+      holds = rw (column_is, row_is) (record {
+        left = omega arith;
+        right = in_group (block_columns shape band) x wide;
+        top = omega arith;
+        bottom = in_group (block_rows shape band) y high;
+      });
+      alone = λ other inside holds.
+          same_place other across (x / 4) (y / 4)
+          (one_group (block_columns shape band) x (other % across) holds.left holds.right)
+          (one_group (block_rows shape band) y (other / across) holds.top holds.bottom);
+    }
+
+-- a fact of one band at all places
+OnePrecincts : Shape → Band → Type 0
+OnePrecincts shape band = (x y : ℕ) → x < block_columns shape band → y < block_rows shape band → OnePrecinct shape band x y
+
+pub one_precincts : (shape : Shape) → All (λ band. (x y : ℕ) → x < block_columns shape band → y < block_rows shape band → OnePrecinct shape band x y) all_bands
+unfolding all_bands
+one_precincts shape =
+    All-weaker (HasPrecincts shape) (λ band. (x y : ℕ) → x < block_columns shape band → y < block_rows shape band → OnePrecinct shape band x y)
+    (λ band has x y wide high. one_precinct shape band x y has wide high) all_bands
+    (All-flat_map (HasPrecincts shape) component_bands (0 ∷ 1 ∷ 2 ∷ [])
+    (All-each (λ component. All (HasPrecincts shape) (component_bands component))
+    (λ component. All-from_recursion (HasPrecincts shape) (component_bands component) (has_precincts shape component)) (0 ∷ 1 ∷ 2 ∷ [])))
+
+-- ---- blocks of a packet's band
+
+length-block_rows : (columns : ℕ) (f : ℕ → List (ℕ × ℕ)) (a rows : ℕ) → ((y : ℕ) → length (f y) ≡ columns) → length (flat_map f (range_with_len a rows)) ≡ columns * rows
+length-block_rows columns f a zero each = omega arith
+length-block_rows columns f a (suc rows) each =
+    rw (length-append (f a) (flat_map f (range_with_len (a + 1) rows)), each a, length-block_rows columns f (a + 1) rows each) (omega arith)
+
+length-block_places : (area : BlockArea) → length (block_places area) ≡ area.columns * area.rows
+length-block_places area = length-block_rows area.columns (row_places area) area.y area.rows (λ y. length-map-range_with_len (λ x. (x, y)) area.x area.columns)
+
+pub length-packet_band : (shape : Shape) (q : List ℤ) (cut number : ℕ) (band : Band)
+    → length (packet_band shape q cut number band).blocks ≡ (packet_band shape q cut number band).columns * (packet_band shape q cut number band).rows
+unfolding packet_band
+length-packet_band shape q cut number band = length-map (block_places (blocks_in shape band number)) _ ∙ length-block_places (blocks_in shape band number)

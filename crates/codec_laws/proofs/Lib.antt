@@ -1,0 +1,12 @@
+pub mod CoefficientBounds
+pub mod BlockPlaces
+pub mod Codewords
+pub mod Contexts
+pub mod Cuts
+pub mod Grids
+pub mod Headers
+pub mod HighestPlane
+pub mod Lists
+pub mod Planes
+pub mod Significance
+pub mod Wave

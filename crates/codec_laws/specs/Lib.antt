@@ -1,0 +1,4 @@
+pub mod Bounds
+pub mod Codewords
+pub mod Contexts
+pub mod Places

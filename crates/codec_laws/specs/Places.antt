@@ -1,0 +1,20 @@
+-- Words of laws on code-blocks' places.
+use Rattle.std.specs.Prelude.{◌≡◌, ◌<◌, ◌≤◌, ℕ, ◌+◌, ◌*◌}
+use Rattle.codec_terms.specs.declared.picture.Shape.{Shape}
+use Rattle.codec_terms.specs.declared.picture.Band.{Band}
+use Rattle.codec_terms.specs.Precincts.{BlockArea, precinct_columns, precinct_rows, resolution, blocks_in}
+
+-- block (x, y) of a sub-band is one of an area's
+pub record IsInArea (area : BlockArea) (x y : ℕ) : Type 0 where
+  pub left : area.x ≤ x
+  pub right : x < area.x + area.columns
+  pub top : area.y ≤ y
+  pub bottom : y < area.y + area.rows
+
+-- block (x, y) of a sub-band stands in exactly one of its resolution's precincts
+pub record OnePrecinct (shape : Shape) (band : Band) (x y : ℕ) : Type 0 where
+  pub number : ℕ
+  pub counted : number < precinct_columns shape (resolution band) * precinct_rows shape (resolution band)
+  pub holds : IsInArea (blocks_in shape band number) x y
+  pub alone : (other : ℕ) → other < precinct_columns shape (resolution band) * precinct_rows shape (resolution band)
+      → IsInArea (blocks_in shape band other) x y → other ≡ number

@@ -1,0 +1,35 @@
+ghost use Rattle.std.specs.Prelude.{◌≡◌, ◌<◌, ◌*◌, ℕ, ℤ, Bool, false, List, All, length};
+ghost use Rattle.std.specs.List.{flat_map};
+ghost use Rattle.codec_terms.specs.declared.picture.Shape.{Shape};
+ghost use Rattle.codec_terms.specs.declared.picture.Band.{Band};
+ghost use Rattle.codec_terms.specs.Bands.{all_bands};
+ghost use Rattle.codec_terms.specs.Mq.{Decision, codeword};
+ghost use Rattle.codec_terms.specs.Precincts.{Precinct, block_columns, block_rows};
+ghost use Rattle.codec_terms.specs.PacketHeader.{packed, ends_with_ff};
+ghost use Rattle.codec_terms.specs.Codestream.{packet_band, precinct_packet};
+ghost use Rattle.codec_laws.specs.Codewords.{HasNoMarker};
+ghost use Rattle.codec_laws.specs.Places.{OnePrecinct};
+
+/// A codeword doesn't end with FF, and no marker begins within codewords that stand behind one another, within a
+/// header's bytes, or within a packet.
+pub fn codeword_laws()
+    ensures end { (ds : List Decision) → ends_with_ff (codeword ds) ≡ false }
+    ensures codewords { (dss : List (List Decision)) → HasNoMarker (flat_map codeword dss) }
+    ensures header { (bits : List Bool) → HasNoMarker (packed bits) }
+    ensures packets { (shape : Shape) (q : List ℤ) (cut component : ℕ) (precinct : Precinct)
+        → HasNoMarker (precinct_packet shape q cut component precinct) }
+{}
+
+/// Each code-block of a picture's sub-band stands in exactly one precinct.
+pub fn precinct_laws()
+    ensures { (shape : Shape)
+        → All (λ band. (x y : ℕ) → x < block_columns shape band → y < block_rows shape band
+            → OnePrecinct shape band x y) all_bands }
+{}
+
+/// A packet's part of a sub-band has as many code-blocks as columns times rows.
+pub fn packet_band_laws()
+    ensures { (shape : Shape) (q : List ℤ) (cut precinct : ℕ) (band : Band)
+        → length (packet_band shape q cut precinct band).blocks
+        ≡ (packet_band shape q cut precinct band).columns * (packet_band shape q cut precinct band).rows }
+{}
