@@ -1,21 +1,24 @@
 -- Each code-block of a sub-band stands in one precinct, and the code-blocks give the sub-band back.
 use Rattle.std.proofs.Common.{◌≡◌, ℕ, zero, suc, ◌+◌, ◌*◌, ◌-◌, ◌/◌, ◌%◌, ◌<◌, ◌≤◌, refl, sym, ap, ap₂, subst, ◌∙◌, arith, Bool, true, false, List, [], ◌∷◌, ◌++◌, length, map, take, drop, get_or, min, All, ℤ, pos}
+use Rattle.std.specs.Prelude.{⊤}
 use Rattle.std.specs.Int.{div_ceil}
 use Rattle.std.specs.List.{flat_map, range_with_len, AllByRecursion}
 use Rattle.std.proofs.lemmas.Nat.{mul-add-lt, div-mul-add, mod-mul-add}
-use Rattle.std.proofs.lemmas.List.{length-map, length-append, length-drop, length-take-le, get_or-take, get_or-drop, get_or_append_left, get_or-append_right, get_or-map}
+use Rattle.std.proofs.lemmas.List.{length-map, length-append, length-drop, length-take-le, get_or-take, get_or-drop, get_or_append_left, get_or-append_right, get_or-map, take_all}
 use Rattle.std.proofs.lemmas.List.FromFn.{length-range_with_len, length-map-range_with_len, get_or-map-range_with_len, get_or-range_with_len, fill_by_all}
 use Rattle.std.proofs.lemmas.List.Elements.{All-nil, All-cons, All-head, All-tail, All-map, All-weaker, All-from_recursion}
 use Rattle.codec_terms.specs.declared.picture.Shape.{Shape}
 use Rattle.codec_terms.specs.declared.picture.Band.{Band}
-use Rattle.codec_terms.specs.Bands.{band_columns, band_rows, all_bands, component_bands}
+use Rattle.codec_terms.specs.Bands.{band_columns, band_rows, band_length, all_bands, component_bands}
 use Rattle.codec_terms.specs.Grid.{grid_of, items_of, part_of}
 use Rattle.codec_terms.specs.Precincts.{BlockArea, group_length, block_columns, block_rows, precinct_columns, precinct_rows, resolution, blocks_at, blocks_in, HasPrecincts}
 use Rattle.codec_terms.specs.Codestream.{block_of, row_places, block_places, packet_band}
 use Rattle.codec_terms.specs.StreamReading.{coefficient_at, coefficients_of_blocks}
 use Rattle.codec_terms.proofs.BlockLaws.{has_precincts}
 use Rattle.codec_laws.specs.Bounds.{IsRowOf, IsGridOf}
-use Rattle.codec_laws.specs.Places.{IsInArea, OnePrecinct}
+use Rattle.codec_laws.specs.Places.{IsInArea, OnePrecinct, row_of_blocks, grid_of_blocks}
+use Rattle.codec_laws.proofs.Grids.{IsGridOf-grid_of, IsGridOf-part_of}
+use Rattle.codec_laws.proofs.GridItems.{get_or-items_of, get_or-grid_of, get_or-part_of, rows_again}
 use Rattle.codec_laws.proofs.Lists.{All-flat_map, All-each, All-from_range}
 
 -- ---- precincts
@@ -87,3 +90,63 @@ pub length-packet_band : (shape : Shape) (q : List ℤ) (cut number : ℕ) (band
     → length (packet_band shape q cut number band).blocks ≡ (packet_band shape q cut number band).columns * (packet_band shape q cut number band).rows
 unfolding packet_band
 length-packet_band shape q cut number band = length-map (block_places (blocks_in shape band number)) _ ∙ length-block_places (blocks_in shape band number)
+
+-- ---- the blocks give the sub-band back
+
+-- a place in a line is a place in its group of 32
+in_block : (n x : ℕ) → x < n → x % 32 < group_length n 32 (x / 32)
+in_block n x inside = omega arith
+
+group_fits : (n g : ℕ) → 32 * g ≤ n → 32 * g + group_length n 32 g ≤ n
+group_fits n g inside = omega arith
+
+place_again : (x : ℕ) → 32 * (x / 32) + x % 32 ≡ x
+place_again x = omega arith
+
+item_of_block : (shape : Shape) (band : Band) (values : List ℤ) (x y : ℕ) → length values ≡ band_rows shape band * band_columns shape band → x < band_columns shape band → y < band_rows shape band
+    → get_or (block_of shape band values (x / 32) (y / 32)).values (y % 32 * group_length (band_columns shape band) 32 (x / 32) + x % 32) (pos 0) ≡ get_or values (y * band_columns shape band + x) (pos 0)
+unfolding block_of
+item_of_block shape band values x y whole wide high =
+    let columns : ℕ = band_columns shape band in
+    let rows : ℕ = band_rows shape band in
+    let width : ℕ = group_length columns 32 (x / 32) in
+    let height : ℕ = group_length rows 32 (y / 32) in
+    let grid : List (List ℤ) = grid_of columns rows values in
+    let any : All (λ (v : ℤ). ⊤) values = All-each (λ v. ⊤) (λ v. tt) values in
+    let whole_grid = IsGridOf-grid_of (λ (v : ℤ). ⊤) columns rows values whole any in
+    let right : 32 * (x / 32) + width ≤ columns = group_fits columns (x / 32) (omega arith) in
+    let low : 32 * (y / 32) + height ≤ rows = group_fits rows (y / 32) (omega arith) in
+    let part = IsGridOf-part_of (λ (v : ℤ). ⊤) (32 * (x / 32)) (32 * (y / 32)) width height columns rows grid right low whole_grid in
+    let in_column : x % 32 < width = in_block columns x wide in
+    let in_row : y % 32 < height = in_block rows y high in
+    get_or-items_of width (part_of (32 * (x / 32)) (32 * (y / 32)) width height grid) (x % 32) (y % 32) (pos 0)
+    (All-weaker (IsRowOf (λ (v : ℤ). ⊤) width) (λ row. length row ≡ width) (λ row r. r.size) (part_of (32 * (x / 32)) (32 * (y / 32)) width height grid) part.each)
+    (rw part.size in_row) in_column
+    ∙ get_or-part_of (32 * (x / 32)) (32 * (y / 32)) width height grid (x % 32) (y % 32) (pos 0) in_column in_row (rw whole_grid.size low)
+    ∙ ap₂ (λ (i j : ℕ). get_or (get_or grid j []) i (pos 0)) (place_again x) (place_again y)
+    ∙ get_or-grid_of columns rows values x y (pos 0) wide high
+
+coefficient_at-is : (shape : Shape) (band : Band) (values : List ℤ) (x y : ℕ) → length values ≡ band_rows shape band * band_columns shape band → x < band_columns shape band → y < band_rows shape band
+    → coefficient_at shape band (grid_of_blocks shape band values) y x ≡ get_or values (y * band_columns shape band + x) (pos 0)
+coefficient_at-is shape band values x y whole wide high =
+    let row : get_or (grid_of_blocks shape band values) (y / 32) [] ≡ row_of_blocks shape band values (y / 32) =
+    get_or-map-range_with_len (row_of_blocks shape band values) 0 (block_rows shape band) (y / 32) (y / 32) [] (group_counted (band_rows shape band) y high) (omega arith) in
+    let block : get_or (row_of_blocks shape band values (y / 32)) (x / 32) [] ≡ (block_of shape band values (x / 32) (y / 32)).values =
+    get_or-map-range_with_len (λ bx. (block_of shape band values bx (y / 32)).values) 0 (block_columns shape band) (x / 32) (x / 32) [] (group_counted (band_columns shape band) x wide) (omega arith) in
+    ap (λ (v : List ℤ). get_or v (y % 32 * group_length (band_columns shape band) 32 (x / 32) + x % 32) (pos 0)) (ap (λ (r : List (List ℤ)). get_or r (x / 32) []) row ∙ block)
+    ∙ item_of_block shape band values x y whole wide high
+  where
+    group_counted : (n x : ℕ) → x < n → x / 32 < div_ceil n 32
+    group_counted n x inside = omega arith
+
+pub coefficients_of_blocks-is : (shape : Shape) (band : Band) (values : List ℤ) → length values ≡ band_length shape band
+    → coefficients_of_blocks shape band (grid_of_blocks shape band values) ≡ values
+coefficients_of_blocks-is shape band values whole =
+    let size : length values ≡ band_rows shape band * band_columns shape band = omega arith in
+    rows_again (band_columns shape band) (coefficient_at shape band (grid_of_blocks shape band values)) values (pos 0) 0 (band_rows shape band) (omega arith)
+    (λ x y wide high. coefficient_at-is shape band values x y size wide (omega arith))
+    ∙ ap (λ (n : ℕ). take (band_rows shape band * band_columns shape band) (drop n values)) none
+    ∙ take_all (band_rows shape band * band_columns shape band) values (omega arith)
+  where
+    none : 0 * band_columns shape band ≡ 0
+    none = omega arith

@@ -1,6 +1,6 @@
 -- The main header is read back, and a stream is its header, its parts and its end.
-use Rattle.std.proofs.Common.{◌≡◌, ℕ, zero, suc, ◌+◌, ◌*◌, ◌-◌, ◌^◌, ◌<◌, ◌≤◌, refl, sym, ap, ap₂, subst, ◌∙◌, arith, Bool, true, false, List, [], ◌∷◌, ◌++◌, length, take, drop, map, Some, Ok, Result, ℤ, append_assoc}
-use Rattle.std.specs.Prelude.{◌==◌, ◌&&◌, nat_le, nat_lt, slice_range}
+use Rattle.std.proofs.Common.{◌≡◌, ℕ, zero, suc, ◌+◌, ◌*◌, ◌-◌, ◌^◌, ◌<◌, ◌≤◌, refl, sym, ap, ap₂, subst, ◌∙◌, arith, Bool, true, false, List, [], ◌∷◌, ◌++◌, length, take, drop, map, Some, None, Option, Ok, Result, append_assoc, ℤ}
+use Rattle.std.specs.Prelude.{◌==◌, ◌&&◌, nat_le, nat_lt, slice_range, flat_map}
 use Rattle.std.proofs.lemmas.Bool.{le-ltb, le-leb, eq-eqb, and_from, and_parts, eqb-true, ltb-true, false≢true}
 use Rattle.std.proofs.lemmas.List.{length-append, length-drop, take_at, drop_at, drop-drop}
 use Rattle.codec_terms.specs.declared.picture.Shape.{Shape}
@@ -11,7 +11,7 @@ use Rattle.codec_terms.specs.Bands.{plane_limit, component_bands, resolution_ban
 use Rattle.codec_terms.specs.Grid.{items_of}
 use Rattle.codec_terms.specs.Reading.{on_ok}
 use Rattle.codec_terms.specs.Codestream.{step_bytes, main_header, part_length, part_lengths, tile_part, component_packets, components, stream}
-use Rattle.codec_terms.specs.MainReading.{FieldRule, fixed, within, number_of, number_at, fields_end, marker_at, size_rules, coding_rules, quantisation_rules, lengths_rules, segment_end, with_segment, may_follow, HeadSoFar, head_of_size, head_at, segments_read, main_read}
+use Rattle.codec_terms.specs.MainReading.{FieldRule, fixed, within, number_of, number_at, fields_end, marker_at, size_rules, coding_rules, quantisation_rules, lengths_rules, segment_end, with_segment, may_follow, HeadSoFar, head_of_size, head_at, planes_at, parts_at, cut_with, segments_read, main_read}
 use Rattle.codec_terms.proofs.StreamLaws.{length-main_header}
 use Rattle.codec_laws.specs.Bounds.{IsPictureSize}
 
@@ -185,6 +185,12 @@ comment_accepted : AllAccepted (within 2 5 65535 ∷ []) ((0 ∷ 12 ∷ []) ∷ 
 unfolding accepts_fields accepts_field number_of
 comment_accepted = AllAccepted-by_test (within 2 5 65535 ∷ []) ((0 ∷ 12 ∷ []) ∷ []) refl
 
+main_read-by : (bytes : List ℕ) (width height next : ℕ) → marker_at bytes (λ m. m == 0xFF4F) 0 ≡ Ok 0xFF4F → marker_at bytes (λ m. m == 0xFF51) 2 ≡ Ok 0xFF51
+    → number_at bytes 8 4 ≡ width → number_at bytes 12 4 ≡ height → fields_end bytes (size_rules width height) 4 ≡ Ok next
+    → main_read bytes ≡ segments_read bytes (length bytes) (head_of_size bytes width height) next
+unfolding main_read
+main_read-by bytes width height next start size wide high end = rw (start, size, wide, high, end) refl
+
 -- ---- the header and the marker of the first tile-part
 
 header_bytes : Shape → ℕ → ℕ → ℕ → ℕ → List ℕ → List ℕ
@@ -199,6 +205,123 @@ module _ (shape : Shape) (a b c cut : ℕ) (rest : List ℕ) where
   bytes : List ℕ
   bytes = header_bytes shape a b c cut rest
 
+  first_marker : marker_at bytes (λ m. m == 0xFF4F) 0 ≡ Ok 0xFF4F
+  unfolding bytes header_bytes main_header component_bands resolution_bands
+  first_marker = marker_at-is bytes (λ m. m == 0xFF4F) 0 0xFF 0x4F (drop 2 bytes) refl refl
+
+  size_marker : marker_at bytes (λ m. m == 0xFF51) 2 ≡ Ok 0xFF51
+  unfolding bytes header_bytes main_header component_bands resolution_bands
+  size_marker = marker_at-is bytes (λ m. m == 0xFF51) 2 0xFF 0x51 (drop 4 bytes) refl refl
+
+  width_is : shape.width < 2 ^ 32 → number_at bytes 8 4 ≡ shape.width
+  unfolding bytes header_bytes main_header component_bands resolution_bands
+  width_is small = number_at-field bytes 8 (four_bytes shape.width) (drop 12 bytes) refl ∙ number_of-four_bytes shape.width small
+
+  height_is : shape.height < 2 ^ 32 → number_at bytes 12 4 ≡ shape.height
+  unfolding bytes header_bytes main_header component_bands resolution_bands
+  height_is small = number_at-field bytes 12 (four_bytes shape.height) (drop 16 bytes) refl ∙ number_of-four_bytes shape.height small
+
   size_end : IsPictureSize shape → fields_end bytes (size_rules shape.width shape.height) 4 ≡ Ok 51
   unfolding bytes header_bytes main_header component_bands resolution_bands size_fields
   size_end s = fields_end-is bytes (size_rules shape.width shape.height) (size_fields shape) (drop 51 bytes) 4 (size_accepted shape s) refl
+
+  -- what is known behind each segment
+  head0 : HeadSoFar
+  head0 = head_of_size bytes shape.width shape.height
+
+  head1 : HeadSoFar
+  head1 = with_segment bytes 0xFF52 53 head0
+
+  head2 : HeadSoFar
+  head2 = with_segment bytes 0xFF5C 73 head1
+
+  head3 : HeadSoFar
+  head3 = with_segment bytes 0xFF55 110 head2
+
+  head4 : HeadSoFar
+  head4 = with_segment bytes 0xFF64 131 head3
+
+  coding_read : (n : ℕ) → segments_read bytes (suc n) head0 51 ≡ segments_read bytes n head1 71
+  unfolding bytes header_bytes main_header component_bands resolution_bands head0 head1 coding_fields
+  coding_read n =
+      segments_read-step bytes n 51 0xFF52 71 head0 (marker_at-is bytes (may_follow bytes head0) 51 0xFF 0x52 (drop 53 bytes) refl refl) refl
+      (fields_end-is bytes coding_rules coding_fields (drop 71 bytes) 53 coding_accepted refl)
+
+  steps_read : (n : ℕ) → segments_read bytes (suc n) head1 71 ≡ segments_read bytes n head2 108
+  unfolding bytes header_bytes main_header component_bands resolution_bands head0 head1 head2 step_fields
+  steps_read n =
+      segments_read-step bytes n 71 0xFF5C 108 head1 (marker_at-is bytes (may_follow bytes head1) 71 0xFF 0x5C (drop 73 bytes) refl refl) refl
+      (fields_end-is bytes (quantisation_rules 1) step_fields (drop 108 bytes) 73 steps_accepted refl)
+
+  lengths_read : (n : ℕ) → segments_read bytes (suc n) head2 108 ≡ segments_read bytes n head3 129
+  unfolding bytes header_bytes main_header component_bands resolution_bands head0 head1 head2 head3 length_fields
+  lengths_read n =
+      segments_read-step bytes n 108 0xFF55 129 head2 (marker_at-is bytes (may_follow bytes head2) 108 0xFF 0x55 (drop 110 bytes) refl refl) refl
+      (fields_end-is bytes lengths_rules (length_fields a b c) (drop 129 bytes) 110 (lengths_accepted a b c) refl)
+
+  comment_read : (n : ℕ) → segments_read bytes (suc n) head3 129 ≡ segments_read bytes n head4 143
+  unfolding bytes header_bytes main_header component_bands resolution_bands head0 head1 head2 head3 head4 number_of
+  comment_read n =
+      segments_read-step bytes n 129 0xFF64 143 head3 (marker_at-is bytes (may_follow bytes head3) 129 0xFF 0x64 (drop 131 bytes) refl refl) refl
+      (rw (fields_end-is bytes (within 2 5 65535 ∷ []) ((0 ∷ 12 ∷ []) ∷ []) (drop 133 bytes) 131 comment_accepted refl,
+      is_there bytes 131 (take 12 (drop 131 bytes)) (drop 143 bytes) refl (omega arith)) refl)
+
+  tile_read : (n : ℕ) → segments_read bytes (suc n) head4 143 ≡ Ok (head_at bytes head4 143)
+  unfolding bytes header_bytes main_header component_bands resolution_bands head0 head1 head2 head3 head4
+  tile_read n = segments_read-end bytes n 143 head4 (marker_at-is bytes (may_follow bytes head4) 143 0xFF 0x90 (drop 145 bytes) refl refl)
+
+  planes_are : planes_at bytes 73 ≡ map plane_limit (component_bands 0)
+  unfolding bytes header_bytes main_header component_bands resolution_bands number_of
+  planes_are = refl
+
+  parts_are : a < 2 ^ 32 → b < 2 ^ 32 → c < 2 ^ 32 → parts_at bytes 110 ≡ a ∷ b ∷ c ∷ []
+  unfolding bytes header_bytes main_header component_bands resolution_bands
+  parts_are small_a small_b small_c =
+      three_same (number_of-four_bytes a small_a) (number_of-four_bytes b small_b) (number_of-four_bytes c small_c)
+    where
+      three_same : {x y z : ℕ} → x ≡ a → y ≡ b → z ≡ c → x ∷ y ∷ z ∷ [] ≡ a ∷ b ∷ c ∷ []
+      three_same p q r = rw (p, q, r) refl
+
+  cut_is : cut < 2 ^ 32 → cut_with bytes None 131 ≡ Some cut
+  unfolding bytes header_bytes main_header component_bands resolution_bands number_of
+  cut_is small = ap Some (number_of-four_bytes cut small)
+
+  head_is : a < 2 ^ 32 → b < 2 ^ 32 → c < 2 ^ 32 → cut < 2 ^ 32
+      → head_at bytes head4 143 ≡ record { shape = shape; mb = map plane_limit (component_bands 0); parts = a ∷ b ∷ c ∷ []; cut = Some cut; next = 143 }
+  unfolding head0 head1 head2 head3 head4
+  head_is small_a small_b small_c small_cut =
+      same_head planes_are (parts_are small_a small_b small_c) (cut_is small_cut)
+    where
+      same_head : {mb mb' parts parts' : List ℕ} {cut cut' : Option ℕ} → mb ≡ mb' → parts ≡ parts' → cut ≡ cut'
+          → (let head : MainHead = record { shape = shape; mb = mb; parts = parts; cut = cut; next = 143 } in head) ≡ record { shape = shape; mb = mb'; parts = parts'; cut = cut'; next = 143 }
+      same_head p q r = rw (p, q, r) refl
+
+  pub main_read-is : IsPictureSize shape → a < 2 ^ 32 → b < 2 ^ 32 → c < 2 ^ 32 → cut < 2 ^ 32
+      → main_read (main_header shape (a ∷ b ∷ c ∷ []) cut ++ 0xFF ∷ 0x90 ∷ rest)
+      ≡ Ok (record { shape = shape; mb = map plane_limit (component_bands 0); parts = a ∷ b ∷ c ∷ []; cut = Some cut; next = 143 })
+  unfolding bytes header_bytes head0
+  main_read-is s small_a small_b small_c small_cut =
+      let small_width : shape.width < 2 ^ 32 = omega (arith, s.greatest_width) in
+      let small_height : shape.height < 2 ^ 32 = omega (arith, s.greatest_height) in
+      main_read-by bytes shape.width shape.height 51 first_marker size_marker (width_is small_width) (height_is small_height) (size_end s)
+      ∙ ap (λ (n : ℕ). segments_read bytes n head0 51) (length-header_bytes shape a b c cut rest)
+      ∙ coding_read (suc (suc (suc (suc (140 + length rest)))))
+      ∙ steps_read (suc (suc (suc (140 + length rest))))
+      ∙ lengths_read (suc (suc (140 + length rest)))
+      ∙ comment_read (suc (140 + length rest))
+      ∙ tile_read (140 + length rest)
+      ∙ ap Ok (head_is small_a small_b small_c small_cut)
+
+-- ---- a whole stream begins with them
+
+stream_begins : (shape : Shape) (q : List ℤ) (cut : ℕ)
+    → stream shape q cut ≡ main_header shape (part_lengths shape q cut) cut ++ 0xFF ∷ 0x90 ∷ drop 2 (flat_map (tile_part shape q cut) components ++ 0xFF ∷ 0xD9 ∷ [])
+unfolding stream
+stream_begins shape q cut = append_assoc (main_header shape (part_lengths shape q cut) cut) (flat_map (tile_part shape q cut) components) (0xFF ∷ 0xD9 ∷ [])
+
+pub main_read-stream : (shape : Shape) (q : List ℤ) (cut : ℕ) → IsPictureSize shape → cut < 2 ^ 32
+    → part_length shape q cut 0 < 2 ^ 32 → part_length shape q cut 1 < 2 ^ 32 → part_length shape q cut 2 < 2 ^ 32
+    → main_read (stream shape q cut) ≡ Ok (record { shape = shape; mb = map plane_limit (component_bands 0); parts = part_lengths shape q cut; cut = Some cut; next = 143 })
+main_read-stream shape q cut s small first second third =
+    ap main_read (stream_begins shape q cut)
+    ∙ main_read-is shape (part_length shape q cut 0) (part_length shape q cut 1) (part_length shape q cut 2) cut (drop 2 (flat_map (tile_part shape q cut) components ++ 0xFF ∷ 0xD9 ∷ [])) s first second third small

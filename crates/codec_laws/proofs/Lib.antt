@@ -3,6 +3,7 @@ pub mod BlockPlaces
 pub mod Codewords
 pub mod Contexts
 pub mod Cuts
+pub mod GridItems
 pub mod Grids
 pub mod Headers
 pub mod HighestPlane

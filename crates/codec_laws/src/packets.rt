@@ -2,13 +2,14 @@ ghost use Rattle.std.specs.Prelude.{◌≡◌, ◌<◌, ◌*◌, ℕ, ℤ, Bool,
 ghost use Rattle.std.specs.List.{flat_map};
 ghost use Rattle.codec_terms.specs.declared.picture.Shape.{Shape};
 ghost use Rattle.codec_terms.specs.declared.picture.Band.{Band};
-ghost use Rattle.codec_terms.specs.Bands.{all_bands};
+ghost use Rattle.codec_terms.specs.Bands.{band_length, all_bands};
 ghost use Rattle.codec_terms.specs.Mq.{Decision, codeword};
 ghost use Rattle.codec_terms.specs.Precincts.{Precinct, block_columns, block_rows};
 ghost use Rattle.codec_terms.specs.PacketHeader.{packed, ends_with_ff};
 ghost use Rattle.codec_terms.specs.Codestream.{packet_band, precinct_packet};
+ghost use Rattle.codec_terms.specs.StreamReading.{coefficients_of_blocks};
 ghost use Rattle.codec_laws.specs.Codewords.{HasNoMarker};
-ghost use Rattle.codec_laws.specs.Places.{OnePrecinct};
+ghost use Rattle.codec_laws.specs.Places.{OnePrecinct, grid_of_blocks};
 
 /// A codeword doesn't end with FF, and no marker begins within codewords that stand behind one another, within a
 /// header's bytes, or within a packet.
@@ -18,6 +19,12 @@ pub fn codeword_laws()
     ensures header { (bits : List Bool) → HasNoMarker (packed bits) }
     ensures packets { (shape : Shape) (q : List ℤ) (cut component : ℕ) (precinct : Precinct)
         → HasNoMarker (precinct_packet shape q cut component precinct) }
+{}
+
+/// The code-blocks of a sub-band's values give the values back.
+pub fn block_laws()
+    ensures { (shape : Shape) (band : Band) (values : List ℤ) → length values ≡ band_length shape band
+        → coefficients_of_blocks shape band (grid_of_blocks shape band values) ≡ values }
 {}
 
 /// Each code-block of a picture's sub-band stands in exactly one precinct.
