@@ -8,6 +8,7 @@ pub mod Grids
 pub mod Headers
 pub mod HighestPlane
 pub mod Lists
+pub mod PackedBits
 pub mod Planes
 pub mod Significance
 pub mod Wave

@@ -1,3 +1,4 @@
+pub mod BitsAhead
 pub mod Bounds
 pub mod Codewords
 pub mod Contexts

@@ -1,4 +1,4 @@
-ghost use Rattle.std.specs.Prelude.{◌≡◌, ◌<◌, ◌*◌, ℕ, ℤ, Bool, false, List, All, length};
+ghost use Rattle.std.specs.Prelude.{◌≡◌, ◌<◌, ◌+◌, ◌*◌, ℕ, ℤ, Bool, false, List, [], ◌∷◌, ◌++◌, All, length, Ok};
 ghost use Rattle.std.specs.List.{flat_map};
 ghost use Rattle.codec_terms.specs.declared.picture.Shape.{Shape};
 ghost use Rattle.codec_terms.specs.declared.picture.Band.{Band};
@@ -6,8 +6,10 @@ ghost use Rattle.codec_terms.specs.Bands.{band_length, all_bands};
 ghost use Rattle.codec_terms.specs.Mq.{Decision, codeword};
 ghost use Rattle.codec_terms.specs.Precincts.{Precinct, block_columns, block_rows};
 ghost use Rattle.codec_terms.specs.PacketHeader.{packed, ends_with_ff};
+ghost use Rattle.codec_terms.specs.PacketReading.{BitPlace, bit_read, header_end};
 ghost use Rattle.codec_terms.specs.Codestream.{packet_band, precinct_packet};
 ghost use Rattle.codec_terms.specs.StreamReading.{coefficients_of_blocks};
+ghost use Rattle.codec_laws.specs.BitsAhead.{IsAhead, start_at, Gives};
 ghost use Rattle.codec_laws.specs.Codewords.{HasNoMarker};
 ghost use Rattle.codec_laws.specs.Places.{OnePrecinct, grid_of_blocks};
 
@@ -39,4 +41,14 @@ pub fn packet_band_laws()
     ensures { (shape : Shape) (q : List ℤ) (cut precinct : ℕ) (band : Band)
         → length (packet_band shape q cut precinct band).blocks
         ≡ (packet_band shape q cut precinct band).columns * (packet_band shape q cut precinct band).rows }
+{}
+
+/// The bits that a header's bytes pack are read back one by one, whatever stands around the bytes, and where they end
+/// is found.
+pub fn packed_bits_laws()
+    ensures begin { (front : List ℕ) (bits : List Bool) (rest : List ℕ)
+        → IsAhead (front ++ packed bits ++ rest) (start_at (length front)) bits (length front + length (packed bits)) }
+    ensures bit { (bytes : List ℕ) (end : ℕ) (p : BitPlace) (bit : Bool) (bits : List Bool)
+        → IsAhead bytes p (bit ∷ bits) end → Gives bytes (bit_read bytes) p bit bits end }
+    ensures end { (bytes : List ℕ) (end : ℕ) (p : BitPlace) → IsAhead bytes p [] end → header_end bytes p ≡ Ok end }
 {}
