@@ -5,6 +5,7 @@ pub mod Contexts
 pub mod Cuts
 pub mod GridItems
 pub mod Grids
+pub mod HeaderNumbers
 pub mod Headers
 pub mod HighestPlane
 pub mod Lists

@@ -97,7 +97,16 @@ InByte-bit bytes (suc k) end p bit bits left here =
       behind = record p { left = suc k };
       read = rw left (ap Ok (top_bit-is bytes p (suc k) here.high bit
           (above p.byte (2 * here.high + from_bool bit) k (first_within k ((2 * here.high + from_bool bit) * 2 ^ suc k) p.byte bits here.more whole))));
-      ahead = record { high = 2 * here.high + from_bool bit; more = here.more; whole = whole; stands = here.stands; stop = here.stop };
+      ahead = record {
+        high = 2 * here.high + from_bool bit;
+        more = here.more;
+        whole = whole;
+        stands = here.stands;
+        stop = here.stop;
+        few = omega (arith, here.few);
+        behind = here.behind;
+        inside = here.inside;
+      };
     }
 
 -- ---- the byte behind
@@ -156,8 +165,11 @@ AtByte-bit bytes end p bit bits left here =
       whole = subst (λ n. packed_into k n (bit ∷ bits) ≡ b.first ∷ b.more) (sym none) b.is;
       stands = record { rest = here.stands.rest; is = after };
       stop = (let size : length (packed_into k 0 (bit ∷ bits)) ≡ suc (length b.more) = ap length b.is in omega (arith, here.stop, size));
+      few = bits_behind-below p.byte;
+      behind = omega arith;
+      inside = (let left : length bytes - p.next ≡ suc (length (b.more ++ here.stands.rest)) = sym (length-drop p.next bytes) ∙ ap length stands in omega (arith, left));
     }) in
-    record { behind = inner.behind; read = bit_read-behind bytes p k (suc p.next) b.first _ left read inner.read; ahead = inner.ahead }
+    record { behind = inner.behind; read = bit_read-behind bytes p k (suc p.next) b.first (Ok (bit, inner.behind)) left read inner.read; ahead = inner.ahead }
 
 pub IsAhead-bit : (bytes : List ℕ) (end : ℕ) (p : BitPlace) (bit : Bool) (bits : List Bool) → IsAhead bytes p (bit ∷ bits) end → Gives bytes (bit_read bytes) p bit bits end
 IsAhead-bit bytes end p bit bits here = by_left p.left refl here
@@ -216,3 +228,29 @@ header_end-is bytes end p here = by_left p.left here
     by_left : (left : ℕ) → IsAheadBy left bytes p [] end → header_end bytes p ≡ Ok end
     by_left zero h = at_byte (p.byte == 255) refl h
     by_left (suc k) h = in_byte k h
+
+-- ---- how many bits there can be
+
+length-packed_into : (k byte : ℕ) (bits : List Bool) → length bits + 7 ≤ k + 8 * length (packed_into k byte bits)
+unfolding packed_into
+length-packed_into k byte [] =
+    cond_both (k == 7) [] (byte ∷ []) (λ (xs : List ℕ). 0 + 7 ≤ k + 8 * length xs) (λ e. omega (arith, eqb-true k 7 e)) (λ e. omega arith)
+length-packed_into zero byte (bit ∷ bits) =
+    let full : ℕ = byte + from_bool bit in
+    omega (arith, length-packed_into (bits_behind full) 0 bits, bits_behind-below full)
+length-packed_into (suc k) byte (bit ∷ bits) = omega (arith, length-packed_into k (byte + from_bool bit * 2 ^ suc k) bits)
+
+stands_within : (bytes : List ℕ) (at : ℕ) (piece : List ℕ) → StandsAt bytes at piece → length piece ≤ length bytes - at
+stands_within bytes at piece here =
+    let left : length bytes - at ≡ length piece + length here.rest = sym (length-drop at bytes) ∙ ap length here.is ∙ length-append piece here.rest in
+    omega (arith, left)
+
+pub length-ahead : (bytes : List ℕ) (end : ℕ) (p : BitPlace) (bits : List Bool) → IsAhead bytes p bits end → length bits ≤ 8 * length bytes
+length-ahead bytes end p bits here = by_left p.left here
+  where
+    by_left : (left : ℕ) → IsAheadBy left bytes p bits end → length bits ≤ 8 * length bytes
+    by_left zero h =
+        omega (arith, length-packed_into (bits_behind p.byte) 0 bits, bits_behind-below p.byte, stands_within bytes p.next (packed_into (bits_behind p.byte) 0 bits) h.stands)
+    by_left (suc k) h =
+        let size : length (packed_into k (h.high * 2 ^ suc k) bits) ≡ suc (length h.more) = ap length h.whole in
+        omega (arith, length-packed_into k (h.high * 2 ^ suc k) bits, size, h.few, h.behind, h.inside, stands_within bytes p.next h.more h.stands)

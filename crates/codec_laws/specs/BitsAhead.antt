@@ -1,5 +1,5 @@
 -- What a reader of a packet header's bits has in front of it.
-use Rattle.std.specs.Prelude.{◌≡◌, ℕ, zero, suc, ◌+◌, ◌*◌, ◌^◌, ◌==◌, Bool, if◌then◌else◌, List, ◌∷◌, ◌++◌, length, drop, Ok}
+use Rattle.std.specs.Prelude.{◌≡◌, ◌<◌, ◌≤◌, ℕ, zero, suc, ◌+◌, ◌*◌, ◌^◌, ◌==◌, Bool, if◌then◌else◌, List, ◌∷◌, ◌++◌, length, drop, Ok}
 use Rattle.codec_terms.specs.PacketHeader.{packed_into}
 use Rattle.codec_terms.specs.PacketReading.{BitPlace, Bits}
 
@@ -24,6 +24,9 @@ pub record InByte (bytes : List ℕ) (k : ℕ) (p : BitPlace) (bits : List Bool)
   pub whole : packed_into k (high * 2 ^ suc k) bits ≡ p.byte ∷ more
   pub stands : StandsAt bytes p.next more
   pub stop : p.next + length more ≡ end
+  pub few : k < 8
+  pub behind : 0 < p.next
+  pub inside : p.next ≤ length bytes
 
 abbrev pub IsAheadBy : ℕ → List ℕ → BitPlace → List Bool → ℕ → Type 0
 IsAheadBy zero bytes p bits end = AtByte bytes p bits end

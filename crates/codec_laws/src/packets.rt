@@ -1,12 +1,13 @@
-ghost use Rattle.std.specs.Prelude.{◌≡◌, ◌<◌, ◌+◌, ◌*◌, ℕ, ℤ, Bool, false, List, [], ◌∷◌, ◌++◌, All, length, Ok};
+ghost use Rattle.std.specs.Prelude.{◌≡◌, ◌<◌, ◌≤◌, ◌+◌, ◌*◌, ◌^◌, ℕ, ℤ, Bool, false, List, [], ◌∷◌, ◌++◌, All, length, Ok};
 ghost use Rattle.std.specs.List.{flat_map};
 ghost use Rattle.codec_terms.specs.declared.picture.Shape.{Shape};
 ghost use Rattle.codec_terms.specs.declared.picture.Band.{Band};
 ghost use Rattle.codec_terms.specs.Bands.{band_length, all_bands};
 ghost use Rattle.codec_terms.specs.Mq.{Decision, codeword};
 ghost use Rattle.codec_terms.specs.Precincts.{Precinct, block_columns, block_rows};
-ghost use Rattle.codec_terms.specs.PacketHeader.{packed, ends_with_ff};
-ghost use Rattle.codec_terms.specs.PacketReading.{BitPlace, bit_read, header_end};
+ghost use Rattle.codec_terms.specs.Bits.{low_bits};
+ghost use Rattle.codec_terms.specs.PacketHeader.{pass_bits, length_bits, packed, ends_with_ff};
+ghost use Rattle.codec_terms.specs.PacketReading.{BitPlace, bit_read, number_read, pass_count_read, size_read, header_end};
 ghost use Rattle.codec_terms.specs.Codestream.{packet_band, precinct_packet};
 ghost use Rattle.codec_terms.specs.StreamReading.{coefficients_of_blocks};
 ghost use Rattle.codec_laws.specs.BitsAhead.{IsAhead, start_at, Gives};
@@ -51,4 +52,15 @@ pub fn packed_bits_laws()
     ensures bit { (bytes : List ℕ) (end : ℕ) (p : BitPlace) (bit : Bool) (bits : List Bool)
         → IsAhead bytes p (bit ∷ bits) end → Gives bytes (bit_read bytes) p bit bits end }
     ensures end { (bytes : List ℕ) (end : ℕ) (p : BitPlace) → IsAhead bytes p [] end → header_end bytes p ≡ Ok end }
+{}
+
+/// A number of passes, a length and any number of so many bits are read back from their bits.
+pub fn header_number_laws()
+    ensures numbers { (bytes : List ℕ) (end k n : ℕ) (p : BitPlace) (bits : List Bool) → n < 2 ^ k
+        → IsAhead bytes p (low_bits k n ++ bits) end → Gives bytes (number_read bytes k 0) p n bits end }
+    ensures passes { (bytes : List ℕ) (end n : ℕ) (p : BitPlace) (bits : List Bool) → 1 ≤ n → n ≤ 164
+        → IsAhead bytes p (pass_bits n ++ bits) end → Gives bytes (pass_count_read bytes) p n bits end }
+    ensures lengths { (bytes : List ℕ) (end passes len : ℕ) (p : BitPlace) (bits : List Bool)
+        → passes ≤ 164 → len < 2 ^ 32
+        → IsAhead bytes p (length_bits passes len ++ bits) end → Gives bytes (size_read bytes passes) p len bits end }
 {}
