@@ -12,4 +12,6 @@ pub mod Lists
 pub mod PackedBits
 pub mod Planes
 pub mod Significance
+pub mod TagTrees
+pub mod TreeLevels
 pub mod Wave

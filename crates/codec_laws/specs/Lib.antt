@@ -3,3 +3,4 @@ pub mod Bounds
 pub mod Codewords
 pub mod Contexts
 pub mod Places
+pub mod TreeReading

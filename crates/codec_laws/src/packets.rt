@@ -1,4 +1,4 @@
-ghost use Rattle.std.specs.Prelude.{◌≡◌, ◌<◌, ◌≤◌, ◌+◌, ◌*◌, ◌^◌, ℕ, ℤ, Bool, false, List, [], ◌∷◌, ◌++◌, All, length, Ok};
+ghost use Rattle.std.specs.Prelude.{◌≡◌, ◌<◌, ◌≤◌, ◌+◌, ◌*◌, ◌^◌, ℕ, ℤ, Bool, false, List, [], ◌∷◌, ◌++◌, All, length, slice_index, Ok};
 ghost use Rattle.std.specs.List.{flat_map};
 ghost use Rattle.codec_terms.specs.declared.picture.Shape.{Shape};
 ghost use Rattle.codec_terms.specs.declared.picture.Band.{Band};
@@ -6,6 +6,7 @@ ghost use Rattle.codec_terms.specs.Bands.{band_length, all_bands};
 ghost use Rattle.codec_terms.specs.Mq.{Decision, codeword};
 ghost use Rattle.codec_terms.specs.Precincts.{Precinct, block_columns, block_rows};
 ghost use Rattle.codec_terms.specs.Bits.{low_bits};
+ghost use Rattle.codec_terms.specs.TagTree.{Tree, FoundTree, new_node, new_tree, blank_tree, leaf_bits, leaf_told, leaf_value};
 ghost use Rattle.codec_terms.specs.PacketHeader.{pass_bits, length_bits, packed, ends_with_ff};
 ghost use Rattle.codec_terms.specs.PacketReading.{BitPlace, bit_read, number_read, pass_count_read, size_read, header_end};
 ghost use Rattle.codec_terms.specs.Codestream.{packet_band, precinct_packet};
@@ -13,6 +14,7 @@ ghost use Rattle.codec_terms.specs.StreamReading.{coefficients_of_blocks};
 ghost use Rattle.codec_laws.specs.BitsAhead.{IsAhead, start_at, Gives};
 ghost use Rattle.codec_laws.specs.Codewords.{HasNoMarker};
 ghost use Rattle.codec_laws.specs.Places.{OnePrecinct, grid_of_blocks};
+ghost use Rattle.codec_laws.specs.TreeReading.{AreSameTrees, HasLeaf, LeafIsRead, IsTold, leaf_of, known_value};
 
 /// A codeword doesn't end with FF, and no marker begins within codewords that stand behind one another, within a
 /// header's bytes, or within a packet.
@@ -63,4 +65,24 @@ pub fn header_number_laws()
     ensures lengths { (bytes : List ℕ) (end passes len : ℕ) (p : BitPlace) (bits : List Bool)
         → passes ≤ 164 → len < 2 ^ 32
         → IsAhead bytes p (length_bits passes len ++ bits) end → Gives bytes (size_read bytes passes) p len bits end }
+{}
+
+/// A new tag tree is what a reader that knows nothing has. The bits of a leaf, for any threshold, leave the reader with
+/// what the writer then has, so that leaf may follow leaf. They tell a value below the threshold, and the reader knows it.
+pub fn tag_tree_laws()
+    ensures new { (columns rows : ℕ) (values : List ℕ) → 0 < columns → 0 < rows → length values ≡ rows * columns
+        → AreSameTrees (new_tree columns rows values) (blank_tree columns rows) }
+    ensures leaves { (columns rows : ℕ) (values : List ℕ) (at : ℕ) → length values ≡ rows * columns → at < rows * columns
+        → HasLeaf (new_tree columns rows values) at }
+    ensures values { (columns rows : ℕ) (values : List ℕ) (at : ℕ) → length values ≡ rows * columns → at < rows * columns
+        → leaf_of (new_tree columns rows values) at ≡ new_node (slice_index values at) }
+    ensures read { (bytes : List ℕ) (t at end : ℕ) (tree : Tree) (found : FoundTree) (p : BitPlace) (bits : List Bool)
+        → AreSameTrees tree found → HasLeaf tree at → IsAhead bytes p (leaf_bits t tree at ++ bits) end
+        → LeafIsRead bytes t at tree found p bits end }
+    ensures kept { (t at other : ℕ) (tree : Tree) → HasLeaf tree at → HasLeaf tree other
+        → HasLeaf (leaf_told t tree at) other }
+    ensures told { (t at : ℕ) (tree : Tree) → HasLeaf tree at
+        → IsTold t (leaf_of tree at) (leaf_of (leaf_told t tree at) at) }
+    ensures known { (at : ℕ) (tree : Tree) (found : FoundTree) → AreSameTrees tree found → HasLeaf tree at
+        → leaf_value found at ≡ known_value (leaf_of tree at) }
 {}
