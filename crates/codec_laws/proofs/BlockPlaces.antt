@@ -1,25 +1,25 @@
 -- Each code-block of a sub-band stands in one precinct, and the code-blocks give the sub-band back.
-use Rattle.std.proofs.Common.{◌≡◌, ℕ, zero, suc, ◌+◌, ◌*◌, ◌-◌, ◌/◌, ◌%◌, ◌<◌, ◌≤◌, refl, sym, ap, ap₂, subst, ◌∙◌, arith, Bool, true, false, List, [], ◌∷◌, ◌++◌, length, map, take, drop, get_or, min, All, ℤ, pos}
+use Rattle.std.proofs.Common.{◌≡◌, ℕ, zero, suc, ◌+◌, ◌*◌, ◌/◌, ◌%◌, ◌<◌, ◌≤◌, ap, ap₂, ◌∙◌, arith, List, [], ◌∷◌, length, take, drop, get_or, All, ℤ, pos}
 use Rattle.std.specs.Prelude.{⊤}
 use Rattle.std.specs.Int.{div_ceil}
-use Rattle.std.specs.List.{flat_map, range_with_len, AllByRecursion}
+use Rattle.std.specs.List.{flat_map, range_with_len}
 use Rattle.std.proofs.lemmas.Nat.{mul-add-lt, div-mul-add, mod-mul-add}
-use Rattle.std.proofs.lemmas.List.{length-map, length-append, length-drop, length-take-le, get_or-take, get_or-drop, get_or_append_left, get_or-append_right, get_or-map, take_all}
-use Rattle.std.proofs.lemmas.List.FromFn.{length-range_with_len, length-map-range_with_len, get_or-map-range_with_len, get_or-range_with_len, fill_by_all}
-use Rattle.std.proofs.lemmas.List.Elements.{All-nil, All-cons, All-head, All-tail, All-map, All-weaker, All-from_recursion}
+use Rattle.std.proofs.lemmas.List.{length-map, length-append, take_all}
+use Rattle.std.proofs.lemmas.List.FromFn.{length-map-range_with_len, get_or-map-range_with_len}
+use Rattle.std.proofs.lemmas.List.Elements.{All-weaker, All-from_recursion}
 use Rattle.codec_terms.specs.declared.picture.Shape.{Shape}
 use Rattle.codec_terms.specs.declared.picture.Band.{Band}
 use Rattle.codec_terms.specs.Bands.{band_columns, band_rows, band_length, all_bands, component_bands}
-use Rattle.codec_terms.specs.Grid.{grid_of, items_of, part_of}
-use Rattle.codec_terms.specs.Precincts.{BlockArea, group_length, block_columns, block_rows, precinct_columns, precinct_rows, resolution, blocks_at, blocks_in, HasPrecincts}
+use Rattle.codec_terms.specs.Grid.{grid_of, part_of}
+use Rattle.codec_terms.specs.Precincts.{BlockArea, group_length, block_columns, block_rows, precinct_columns, precinct_rows, resolution, blocks_in, HasPrecincts}
 use Rattle.codec_terms.specs.Codestream.{block_of, row_places, block_places, packet_band}
 use Rattle.codec_terms.specs.StreamReading.{coefficient_at, coefficients_of_blocks}
 use Rattle.codec_terms.proofs.BlockLaws.{has_precincts}
-use Rattle.codec_laws.specs.Bounds.{IsRowOf, IsGridOf}
-use Rattle.codec_laws.specs.Places.{IsInArea, OnePrecinct, row_of_blocks, grid_of_blocks}
+use Rattle.codec_laws.specs.Bounds.{IsRowOf}
+use Rattle.codec_laws.specs.Places.{OnePrecinct, row_of_blocks, grid_of_blocks}
 use Rattle.codec_laws.proofs.Grids.{IsGridOf-grid_of, IsGridOf-part_of}
 use Rattle.codec_laws.proofs.GridItems.{get_or-items_of, get_or-grid_of, get_or-part_of, rows_again}
-use Rattle.codec_laws.proofs.Lists.{All-flat_map, All-each, All-from_range}
+use Rattle.codec_laws.proofs.Lists.{All-flat_map, All-each}
 
 -- ---- precincts
 

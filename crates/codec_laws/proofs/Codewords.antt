@@ -12,7 +12,7 @@ use Rattle.std.proofs.lemmas.Grind.{reverse_onto}
 use Rattle.codec_terms.specs.declared.picture.Shape.{Shape}
 use Rattle.codec_terms.specs.declared.picture.Band.{Band}
 use Rattle.codec_terms.specs.declared.packet.PacketBand.{PacketBand}
-use Rattle.codec_terms.specs.Mq.{Decision, last_byte, without_last_ff, bits_set, shifted_out, flushed_bytes, codeword, coded, start}
+use Rattle.codec_terms.specs.Mq.{Decision, last_byte, without_last_ff, flushed_bytes, codeword, coded, start}
 use Rattle.codec_terms.specs.BlockDecisions.{Block, plane_count, decisions}
 use Rattle.codec_terms.specs.Bands.{band_values, lowest_plane, resolution_bands}
 use Rattle.codec_terms.specs.Precincts.{Precinct, blocks_in}

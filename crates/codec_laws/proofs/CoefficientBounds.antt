@@ -1,28 +1,25 @@
 -- Planes and coefficients of a picture: how many there are, and how great.
-use Rattle.std.proofs.Common.{◌≡◌, ℕ, zero, suc, ◌+◌, ◌*◌, ◌-◌, ◌/◌, ◌%◌, ◌^◌, ◌<◌, ◌≤◌, refl, sym, ap, ap₂, subst, ◌∙◌, arith, Bool, true, false, List, [], ◌∷◌, ◌++◌, length, map, take, drop, get_or, All, sum_by, ℤ, pos, negsuc, neg_ℤ, ◌+ℤ◌, ◌-ℤ◌, ◌*ℤ◌, unsigned_abs, min, zero-add}
+use Rattle.std.proofs.Common.{◌≡◌, ℕ, zero, suc, ◌+◌, ◌*◌, ◌-◌, ◌/◌, ◌^◌, ◌<◌, ◌≤◌, refl, sym, ap, subst, ◌∙◌, arith, Bool, true, false, List, [], ◌∷◌, length, map, get_or, All, ℤ, pos, negsuc, neg_ℤ, ◌+ℤ◌, ◌-ℤ◌, ◌*ℤ◌, unsigned_abs, min, zero-add}
 use Rattle.std.specs.Prelude.{◌&&◌, nat_le}
-use Rattle.std.specs.Int.{int_shr, div_ceil}
-use Rattle.std.specs.List.{flat_map, list_all}
+use Rattle.std.specs.Int.{int_shr}
+use Rattle.std.specs.List.{flat_map}
 use Rattle.std.proofs.lemmas.Int.{ints, unsigned_abs-mul}
 use Rattle.std.proofs.lemmas.Nat.{pow_pos}
 use Rattle.std.proofs.lemmas.Bool.{leb-true, and_parts}
-use Rattle.std.proofs.lemmas.List.{length-map}
 use Rattle.std.proofs.lemmas.List.Concat.{length-flat_map}
 use Rattle.std.proofs.lemmas.List.Sums.{AllPass-from_list_all}
 use Rattle.std.proofs.lemmas.List.Elements.{All-nil, All-cons, All-head, All-tail, All-map, All-weaker}
 use Rattle.codec_terms.specs.declared.picture.Shape.{Shape}
 use Rattle.codec_terms.specs.declared.picture.Band.{Band}
-use Rattle.codec_terms.specs.declared.picture.BandKind.{BandKind}
-use Rattle.codec_terms.specs.declared.picture.BandKind.TheVariants.{LL, HL, LH, HH}
 use Rattle.codec_terms.specs.Quantiser.{with_sign_of, quantised}
-use Rattle.codec_terms.specs.Bands.{step, plane_limit, is_high_in_rows, is_high_in_columns, band_side, band_columns, band_rows, band_length, band_place, band_start, band_values, all_bands, component_bands, resolution_bands}
+use Rattle.codec_terms.specs.Bands.{step, plane_limit, is_high_in_rows, is_high_in_columns, band_side, band_columns, band_rows, band_length, band_place, band_values, all_bands, component_bands, resolution_bands}
 use Rattle.codec_terms.specs.Colour.{code_value, xyz_value, xyz_plane, Weights, x_weights, y_weights, z_weights}
 use Rattle.codec_terms.specs.Wavelet.{shifted, luma, chroma_blue, chroma_red, component}
-use Rattle.codec_terms.specs.Encode.{picture_planes, component_planes, wave, band_side_start, band_part, quantised_band, quantised_planes, coefficients}
+use Rattle.codec_terms.specs.Encode.{picture_planes, wave, band_side_start, quantised_band, quantised_planes, coefficients}
 use Rattle.codec_terms.proofs.ColourLaws.{code_value-greatest}
 use Rattle.codec_terms.proofs.CoefficientLaws.{AreAtPlaces, all_at_places, sum_by-all_bands}
 use Rattle.codec_laws.specs.Bounds.{IsRowOf, IsGridOf, IsClamped, FitsBand, FitBands}
-use Rattle.codec_laws.proofs.Lists.{sum_by-same, take-drop-flat_map, All-each}
+use Rattle.codec_laws.proofs.Lists.{sum_by-same, take-drop-flat_map}
 use Rattle.codec_laws.proofs.Grids.{IsRowOf-map, IsGridOf-part_of, IsRowOf-items_of}
 use Rattle.codec_laws.proofs.Wave.{IsGridOf-wave}
 
@@ -89,23 +86,38 @@ IsSmall f = (a b c : ℤ) → unsigned_abs a ≤ 2 ^ 11 → unsigned_abs b ≤ 2
 IsSmall-luma : IsSmall luma
 unfolding IsSmall
 IsSmall-luma a b c p q r =
-    abs_eighth _ (omega (arith,
-    abs_add (pos 19595 *ℤ a +ℤ pos 38470 *ℤ b) (pos 7471 *ℤ c), abs_add (pos 19595 *ℤ a) (pos 38470 *ℤ b),
-    unsigned_abs-mul (pos 19595) a, unsigned_abs-mul (pos 38470) b, unsigned_abs-mul (pos 7471) c))
+    abs_eighth _ (omega (
+      arith,
+      abs_add (pos 19595 *ℤ a +ℤ pos 38470 *ℤ b) (pos 7471 *ℤ c),
+      abs_add (pos 19595 *ℤ a) (pos 38470 *ℤ b),
+      unsigned_abs-mul (pos 19595) a,
+      unsigned_abs-mul (pos 38470) b,
+      unsigned_abs-mul (pos 7471) c,
+    ))
 
 IsSmall-chroma_blue : IsSmall chroma_blue
 unfolding IsSmall
 IsSmall-chroma_blue a b c p q r =
-    abs_eighth _ (omega (arith,
-    abs_add (neg_ℤ (pos 11059) *ℤ a -ℤ pos 21709 *ℤ b) (pos 32768 *ℤ c), abs_sub (neg_ℤ (pos 11059) *ℤ a) (pos 21709 *ℤ b),
-    unsigned_abs-mul (neg_ℤ (pos 11059)) a, unsigned_abs-mul (pos 21709) b, unsigned_abs-mul (pos 32768) c))
+    abs_eighth _ (omega (
+      arith,
+      abs_add (neg_ℤ (pos 11059) *ℤ a -ℤ pos 21709 *ℤ b) (pos 32768 *ℤ c),
+      abs_sub (neg_ℤ (pos 11059) *ℤ a) (pos 21709 *ℤ b),
+      unsigned_abs-mul (neg_ℤ (pos 11059)) a,
+      unsigned_abs-mul (pos 21709) b,
+      unsigned_abs-mul (pos 32768) c,
+    ))
 
 IsSmall-chroma_red : IsSmall chroma_red
 unfolding IsSmall
 IsSmall-chroma_red a b c p q r =
-    abs_eighth _ (omega (arith,
-    abs_sub (pos 32768 *ℤ a -ℤ pos 27439 *ℤ b) (pos 5329 *ℤ c), abs_sub (pos 32768 *ℤ a) (pos 27439 *ℤ b),
-    unsigned_abs-mul (pos 32768) a, unsigned_abs-mul (pos 27439) b, unsigned_abs-mul (pos 5329) c))
+    abs_eighth _ (omega (
+      arith,
+      abs_sub (pos 32768 *ℤ a -ℤ pos 27439 *ℤ b) (pos 5329 *ℤ c),
+      abs_sub (pos 32768 *ℤ a) (pos 27439 *ℤ b),
+      unsigned_abs-mul (pos 32768) a,
+      unsigned_abs-mul (pos 27439) b,
+      unsigned_abs-mul (pos 5329) c,
+    ))
 
 IsRowOf-component : (f : ℤ → ℤ → ℤ → ℤ) → IsSmall f → (xs ys zs : List ℕ) → length ys ≡ length xs → length zs ≡ length xs → All IsCode xs → All IsCode ys → All IsCode zs
     → IsRowOf IsClamped (length xs) (component f xs ys zs)

@@ -1,26 +1,24 @@
 -- How long a stream is, and that at the last cut it is as short as it can be.
-use Rattle.std.proofs.Common.{◌≡◌, ℕ, zero, suc, ◌+◌, ◌*◌, ◌-◌, ◌<◌, ◌≤◌, refl, sym, ap, ap₂, subst, ◌∙◌, arith, Bool, true, false, List, [], ◌∷◌, ◌++◌, length, map, All, ℤ, sum_by}
+use Rattle.std.proofs.Common.{◌≡◌, ℕ, ◌+◌, ◌*◌, ◌<◌, ◌≤◌, refl, sym, ap, ap₂, subst, ◌∙◌, arith, Bool, false, List, [], ◌∷◌, ◌++◌, length, map, All, ℤ, sum_by}
 use Rattle.std.proofs.lemmas.Nat.{mul-le}
-use Rattle.std.specs.Prelude.{nat_le, nat_lt}
-use Rattle.std.specs.Int.{from_bool, div_ceil}
-use Rattle.std.specs.List.{flat_map, list_any, range_with_len}
+use Rattle.std.specs.Int.{from_bool}
+use Rattle.std.specs.List.{list_any, range_with_len}
 use Rattle.std.proofs.lemmas.Bool.{le-ltb, le-leb}
-use Rattle.std.proofs.lemmas.List.{length-append, length-map}
+use Rattle.std.proofs.lemmas.List.{length-append}
 use Rattle.std.proofs.lemmas.List.FromFn.{length-map-range_with_len}
 use Rattle.std.proofs.lemmas.List.Concat.{length-flat_map}
 use Rattle.std.proofs.lemmas.List.Folds.{list_any_none}
-use Rattle.std.proofs.lemmas.List.Sums.{sum_by-le, sum_by-cons}
-use Rattle.std.proofs.lemmas.List.Elements.{All-nil, All-cons, All-head, All-tail, All-map, All-weaker}
+use Rattle.std.proofs.lemmas.List.Sums.{sum_by-le}
+use Rattle.std.proofs.lemmas.List.Elements.{All-map, All-weaker}
 use Rattle.mast_base.specs.declared.limits.Limits.{Limits}
 use Rattle.codec_terms.specs.declared.picture.Shape.{Shape}
 use Rattle.codec_terms.specs.declared.picture.Band.{Band}
-use Rattle.codec_terms.specs.declared.packet.PacketBlock.{PacketBlock}
 use Rattle.codec_terms.specs.declared.packet.PacketBand.{PacketBand}
-use Rattle.codec_terms.specs.Bands.{rank, lowest_plane, plane_limit, all_bands, component_bands, resolution_bands, band_values}
+use Rattle.codec_terms.specs.Bands.{rank, lowest_plane, all_bands, component_bands, resolution_bands, band_values}
 use Rattle.codec_terms.specs.Precincts.{Precinct, precinct_at, precinct_columns, precinct_rows, resolution_precincts, all_precincts, packet_order, blocks_in}
 use Rattle.codec_terms.specs.BlockDecisions.{Block, plane_count}
-use Rattle.codec_terms.specs.PacketHeader.{is_included, has_included, packet, full_packet}
-use Rattle.codec_terms.specs.Codestream.{main_header, part_length, part_lengths, part_header, tile_part, component_packets, components, stream, packet_block, packet_band, precinct_packet, placed_block, block_places, block_of, not_included, included_down_to}
+use Rattle.codec_terms.specs.PacketHeader.{is_included, has_included, packet}
+use Rattle.codec_terms.specs.Codestream.{main_header, part_length, part_lengths, part_header, tile_part, component_packets, stream, packet_block, packet_band, precinct_packet, placed_block, block_places, block_of}
 use Rattle.codec_terms.specs.Cut.{IsWithin, IsLeastCut, least_cut}
 use Rattle.codec_terms.proofs.StreamLaws.{length-main_header}
 use Rattle.codec_terms.proofs.OrderLaws.{sum_by-packet_order}
@@ -102,8 +100,11 @@ precincts_last shape q component inside fits =
 
     short : (r number : ℕ) → r < 6 → Short (precinct_at r (precinct_columns shape r) number)
     short r number below =
-        omega (arith, length-packet-last shape q number (resolution_bands component r)
-        (resolution_fits (λ band. All (FitsBand band) (band_values shape q band)) fits component r inside below))
+        omega (
+          arith,
+          length-packet-last shape q number (resolution_bands component r)
+              (resolution_fits (λ band. All (FitsBand band) (band_values shape q band)) fits component r inside below),
+        )
 
 -- ---- there are at most 59 precincts
 

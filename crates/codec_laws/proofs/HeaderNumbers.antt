@@ -1,11 +1,10 @@
 -- Numbers, numbers of passes and lengths are read back from a header's bits.
-use Rattle.std.proofs.Common.{◌≡◌, ℕ, zero, suc, ◌+◌, ◌*◌, ◌-◌, ◌/◌, ◌%◌, ◌^◌, ◌<◌, ◌≤◌, refl, sym, ap, subst, ◌∙◌, arith, Bool, true, false, List, [], ◌∷◌, ◌++◌, length, replicate, Ok, Result, append_assoc, inl, inr, mod-eq_of_lt}
-use Rattle.std.specs.Prelude.{◌==◌, if◌then◌else◌, nat_le, nat_lt}
+use Rattle.std.proofs.Common.{◌≡◌, ℕ, zero, suc, ◌+◌, ◌*◌, ◌-◌, ◌/◌, ◌%◌, ◌^◌, ◌<◌, ◌≤◌, refl, sym, ap, subst, ◌∙◌, arith, Bool, true, false, List, ◌∷◌, ◌++◌, length, replicate, append_assoc, inl, inr, mod-eq_of_lt}
+use Rattle.std.specs.Prelude.{◌==◌, if◌then◌else◌}
 use Rattle.std.specs.Int.{from_bool}
-use Rattle.std.proofs.lemmas.Nat.{mod-pow-add, pow-add}
+use Rattle.std.proofs.lemmas.Nat.{mod-pow-add}
 use Rattle.std.proofs.Math.Nat.{pow-succ'}
-use Rattle.std.proofs.lemmas.Bool.{cases_lt, le-ltb, lt-ltb, le-leb, lt-leb, ltb-true}
-use Rattle.codec_terms.specs.declared.packet.HeadRefusal.{HeadRefusal}
+use Rattle.std.proofs.lemmas.Bool.{cases_lt, le-ltb, lt-ltb, le-leb, lt-leb}
 use Rattle.codec_terms.specs.declared.packet.HeadRefusal.TheVariants.{WideLength}
 use Rattle.std.proofs.lemmas.List.{length-append, length-replicate}
 use Rattle.codec_terms.specs.Bits.{low_bits, bit_length, log2}

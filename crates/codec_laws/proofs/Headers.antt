@@ -1,16 +1,14 @@
 -- The main header is read back, and a stream is its header, its parts and its end.
-use Rattle.std.proofs.Common.{◌≡◌, ℕ, zero, suc, ◌+◌, ◌*◌, ◌-◌, ◌^◌, ◌<◌, ◌≤◌, refl, sym, ap, ap₂, subst, ◌∙◌, arith, Bool, true, false, List, [], ◌∷◌, ◌++◌, length, take, drop, map, Some, None, Option, Ok, Result, append_assoc, ℤ}
-use Rattle.std.specs.Prelude.{◌==◌, ◌&&◌, nat_le, nat_lt, slice_range, flat_map}
+use Rattle.std.proofs.Common.{◌≡◌, ℕ, suc, ◌+◌, ◌*◌, ◌-◌, ◌^◌, ◌<◌, ◌≤◌, refl, sym, ap, ◌∙◌, arith, Bool, true, false, List, [], ◌∷◌, ◌++◌, length, take, drop, map, Some, None, Option, Ok, append_assoc, ℤ}
+use Rattle.std.specs.Prelude.{◌==◌, ◌&&◌, nat_le, nat_lt, flat_map}
 use Rattle.std.proofs.lemmas.Bool.{le-ltb, le-leb, eq-eqb, and_from, and_parts, eqb-true, ltb-true, false≢true}
 use Rattle.std.proofs.lemmas.List.{length-append, length-drop, take_at, drop_at, drop-drop}
 use Rattle.codec_terms.specs.declared.picture.Shape.{Shape}
 use Rattle.codec_terms.specs.declared.reading.MainHead.{MainHead}
-use Rattle.codec_terms.specs.declared.reading.MarkerRefusal.{MarkerRefusal}
 use Rattle.codec_terms.specs.Bits.{four_bytes}
 use Rattle.codec_terms.specs.Bands.{plane_limit, component_bands, resolution_bands}
 use Rattle.codec_terms.specs.Grid.{items_of}
-use Rattle.codec_terms.specs.Reading.{on_ok}
-use Rattle.codec_terms.specs.Codestream.{step_bytes, main_header, part_length, part_lengths, tile_part, component_packets, components, stream}
+use Rattle.codec_terms.specs.Codestream.{step_bytes, main_header, part_length, part_lengths, tile_part, components, stream}
 use Rattle.codec_terms.specs.MainReading.{FieldRule, fixed, within, number_of, number_at, fields_end, marker_at, size_rules, coding_rules, quantisation_rules, lengths_rules, segment_end, with_segment, may_follow, HeadSoFar, head_of_size, head_at, planes_at, parts_at, cut_with, segments_read, main_read}
 use Rattle.codec_terms.proofs.StreamLaws.{length-main_header}
 use Rattle.codec_laws.specs.Bounds.{IsPictureSize}
@@ -263,8 +261,10 @@ module _ (shape : Shape) (a b c cut : ℕ) (rest : List ℕ) where
   unfolding bytes header_bytes main_header component_bands resolution_bands head0 head1 head2 head3 head4 number_of
   comment_read n =
       segments_read-step bytes n 129 0xFF64 143 head3 (marker_at-is bytes (may_follow bytes head3) 129 0xFF 0x64 (drop 131 bytes) refl refl) refl
-      (rw (fields_end-is bytes (within 2 5 65535 ∷ []) ((0 ∷ 12 ∷ []) ∷ []) (drop 133 bytes) 131 comment_accepted refl,
-      is_there bytes 131 (take 12 (drop 131 bytes)) (drop 143 bytes) refl (omega arith)) refl)
+      (rw (
+        fields_end-is bytes (within 2 5 65535 ∷ []) ((0 ∷ 12 ∷ []) ∷ []) (drop 133 bytes) 131 comment_accepted refl,
+        is_there bytes 131 (take 12 (drop 131 bytes)) (drop 143 bytes) refl (omega arith),
+      ) refl)
 
   tile_read : (n : ℕ) → segments_read bytes (suc n) head4 143 ≡ Ok (head_at bytes head4 143)
   unfolding bytes header_bytes main_header component_bands resolution_bands head0 head1 head2 head3 head4

@@ -1,15 +1,15 @@
 -- On a block's highest bit-plane no sample is significant before the cleanup, so that the passes before it change
 -- nothing.
-use Rattle.std.proofs.Common.{◌≡◌, ℕ, zero, suc, ◌+◌, ◌*◌, ◌^◌, ◌<◌, ◌≤◌, refl, sym, ap, ap₂, ◌∙◌, arith, Bool, true, false, List, [], ◌∷◌, length, map, get_or, All, ℤ, pos, unsigned_abs, fold, max, inl, inr}
+use Rattle.std.proofs.Common.{◌≡◌, ℕ, zero, suc, ◌+◌, ◌*◌, ◌^◌, ◌<◌, ◌≤◌, refl, ap, ◌∙◌, arith, Bool, false, List, [], ◌∷◌, length, map, get_or, All, pos, unsigned_abs, fold, max, inl, inr}
 use Rattle.std.specs.Prelude.{◌==◌, not}
 use Rattle.std.specs.Int.{from_bool}
 use Rattle.std.proofs.lemmas.Bool.{cond-false, lt-leb, and_left, and_right, cases_lt}
 use Rattle.std.proofs.lemmas.List.{length-map, get_or-map, get_or_past}
 use Rattle.std.proofs.lemmas.List.Folds.{fold_stays}
-use Rattle.std.proofs.lemmas.List.Elements.{All-nil, All-cons, All-head, All-tail, All-map, All-weaker}
+use Rattle.std.proofs.lemmas.List.Elements.{All-nil, All-cons, All-map}
 use Rattle.codec_terms.specs.declared.picture.BandKind.{BandKind}
 use Rattle.codec_terms.specs.declared.picture.BandKind.TheVariants.{LL, HL, LH, HH}
-use Rattle.codec_terms.specs.Contexts.{is_in, horizontal, vertical, diagonal, zero_context, zero_context_at, Column, scan}
+use Rattle.codec_terms.specs.Contexts.{is_in, horizontal, vertical, diagonal, zero_context, zero_context_at, scan}
 use Rattle.codec_terms.specs.BlockDecisions.{Block, Walk, is_significant, is_visited, zero_context_of, bit_told, is_reached, visited_at, propagated, is_refined, refined, column_propagated, column_refined, propagation, refinement, cleanup, is_significant_above, plane_start, first_plane_decisions, plane_decisions, plane_count}
 use Rattle.codec_laws.proofs.Planes.{greatest-below, within-bit_length}
 

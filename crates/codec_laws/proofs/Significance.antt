@@ -1,22 +1,18 @@
 -- Behind a bit-plane's cleanup the significant samples are those with a bit in this plane or above it.
-use Rattle.std.proofs.Common.{◌≡◌, ◌≢◌, ℕ, zero, suc, ◌+◌, ◌*◌, ◌-◌, ◌/◌, ◌%◌, ◌^◌, ◌<◌, ◌≤◌, refl, sym, ap, subst, ◌∙◌, arith, Bool, true, false, List, [], ◌∷◌, ◌++◌, length, map, drop, get_or, set, replicate, All, ℤ, pos, unsigned_abs, Option, Some, None, fold, pow_pos, inl, inr, cond, div-add-mod'}
-use Rattle.std.specs.Prelude.{◌==◌, ◌&&◌, not, nat_lt, nat_le, position, slice_index}
-use Rattle.std.specs.List.{list_all, range_with_len, flat_map}
+use Rattle.std.proofs.Common.{◌≡◌, ℕ, zero, suc, ◌+◌, ◌*◌, ◌-◌, ◌/◌, ◌%◌, ◌^◌, ◌<◌, ◌≤◌, refl, sym, ap, subst, ◌∙◌, arith, Bool, true, false, List, [], ◌∷◌, length, map, drop, get_or, set, All, pos, unsigned_abs, Option, Some, None, fold, pow_pos, inl, inr, cond, div-add-mod'}
+use Rattle.std.specs.Prelude.{◌==◌, not, nat_lt, nat_le, position, slice_index}
+use Rattle.std.specs.List.{list_all, range_with_len}
 use Rattle.std.proofs.Math.Nat.{pow-succ', div-eq_of_lt}
 use Rattle.std.specs.List.{position_or_len}
-use Rattle.std.proofs.lemmas.Bool.{cond_both, leb-true, leb-false, le-leb, lt-leb, ltb-true, lt-ltb, eqb-true, eqb-false, eq-eqb, and_parts, and_cases, not-true, not-false, cases_Bool, cases_eq, cases_order, cases_lt, false≢true, ltb-false}
+use Rattle.std.proofs.lemmas.Bool.{cond_both, leb-true, le-leb, lt-leb, lt-ltb, eqb-true, eqb-false, and_parts, and_cases, not-true, not-false, cases_Bool, cases_eq, cases_order, cases_lt, false≢true, ltb-false}
 use Rattle.std.proofs.lemmas.Nat.{mul-add-lt, le-div, div_below, mod_below}
-use Rattle.std.proofs.lemmas.List.{length-map, length-set, length-replicate, get_or-map, get_or-set_same, get_or-set_other, get_or-replicate, get_or_past, ext_get_or, get_or-drop, length-drop}
+use Rattle.std.proofs.lemmas.List.{length-map, length-set, get_or-map, get_or-set_same, get_or-set_other, get_or-replicate, get_or_past, ext_get_or, get_or-drop, length-drop}
 use Rattle.std.proofs.lemmas.List.Sums.{AllPass-from_list_all, fails_before_first}
 use Rattle.std.proofs.lemmas.List.Quantifiers.{position-Some}
-use Rattle.std.proofs.lemmas.List.Folds.{fold_stays}
-use Rattle.std.proofs.lemmas.List.FromFn.{length-range_with_len, get_or-range_with_len}
 use Rattle.std.proofs.lemmas.List.Elements.{All-nil, All-cons, All-head, All-tail, All-map, All-weaker, All-drop, All-from_get_or}
-use Rattle.codec_terms.specs.declared.picture.BandKind.{BandKind}
-use Rattle.codec_terms.specs.declared.picture.BandKind.TheVariants.{LL, HL, LH, HH}
-use Rattle.codec_terms.specs.Contexts.{is_in, contains, with_sample, horizontal, vertical, diagonal, zero_context, zero_context_at, Column, in_fours, stripe_columns, scan}
-use Rattle.codec_terms.specs.BlockDecisions.{Block, Walk, value_at, magnitude_at, plane_bit, with_decision, is_significant, is_visited, zero_context_of, sign_told, bit_told, is_reached, visited_at, propagated, is_refined, refined, is_left, cleaned, may_run, is_run, run_end, run_told, column_propagated, column_refined, column_cleaned, propagation, refinement, cleanup, is_significant_above, plane_start, first_plane_decisions, plane_decisions}
-use Rattle.codec_laws.proofs.Lists.{fold_keeps, fold_keeps_within, fold_reaches, All-flat_map, All-each, All-pieces, All-range, All-from_range}
+use Rattle.codec_terms.specs.Contexts.{is_in, contains, Column, in_fours, stripe_columns, scan}
+use Rattle.codec_terms.specs.BlockDecisions.{Block, Walk, magnitude_at, plane_bit, with_decision, is_significant, is_visited, zero_context_of, sign_told, bit_told, is_reached, visited_at, propagated, is_refined, refined, is_left, cleaned, may_run, is_run, run_end, run_told, column_propagated, column_refined, column_cleaned, propagation, refinement, cleanup, is_significant_above, plane_start}
+use Rattle.codec_laws.proofs.Lists.{fold_keeps, fold_keeps_within, fold_reaches, All-flat_map, All-pieces, All-range, All-from_range}
 
 -- ---- the scan has each sample
 

@@ -1,19 +1,18 @@
 -- The bits that tell of a tag tree's leaf are read back.
-use Rattle.std.proofs.Common.{◌≡◌, ◌≢◌, ℕ, zero, suc, ◌+◌, ◌*◌, ◌-◌, ◌/◌, ◌%◌, ◌^◌, ◌<◌, ◌≤◌, ◌⊎◌, refl, sym, ap, ap₂, subst, subst₂, ◌∙◌, arith, Bool, true, false, cond, min, max, List, [], ◌∷◌, ◌++◌, length, get_or, set, replicate, Ok, Err, Result, Some, None, Option, append_assoc, append-nil, inl, inr}
-use Rattle.std.specs.Prelude.{◌==◌, ◌&&◌, ◌||◌, not, if◌then◌else◌, nat_lt, ⊤}
-use Rattle.std.proofs.lemmas.Bool.{cond_both, cases_Bool, cases_lt, cases_eq, lt-ltb, le-ltb, ltb-true, ltb-false, false≢true, cond-true, cond-false, or_left, or_right, or_from}
+use Rattle.std.proofs.Common.{◌≡◌, ◌≢◌, ℕ, zero, suc, ◌+◌, ◌*◌, ◌-◌, ◌/◌, ◌%◌, ◌^◌, ◌<◌, ◌≤◌, ◌⊎◌, refl, sym, ap, subst, subst₂, ◌∙◌, arith, Bool, true, false, min, max, List, [], ◌∷◌, ◌++◌, length, get_or, set, replicate, Ok, Err, Result, Some, append_assoc, append-nil, inl, inr}
+use Rattle.std.specs.Prelude.{if◌then◌else◌, nat_lt, ⊤}
+use Rattle.std.proofs.lemmas.Bool.{cond_both, cases_Bool, cases_lt, cases_eq, lt-ltb, le-ltb, false≢true, or_left, or_right, or_from}
 use Rattle.std.proofs.lemmas.Nat.{shr-shr}
-use Rattle.std.proofs.Math.Nat.{pow-succ'}
 use Rattle.std.proofs.lemmas.List.{length-set, get_or-set_same, get_or-set_other}
 use Rattle.codec_terms.specs.declared.packet.HeadRefusal.{HeadRefusal}
 use Rattle.codec_terms.specs.Grid.{grid_item, with_grid_item}
 use Rattle.codec_terms.specs.Reading.{on_ok, done, ◌>>=◌}
-use Rattle.codec_terms.specs.TagTree.{Node, Tree, node_bits, node_told, raised, no_node, node_above, path_bits, path_told, leaf_bits, leaf_told, Found, FoundTree, found_above, is_open, with_bit, path_wants, path_pushed, leaf_found, wants, pushed, leaf_value}
-use Rattle.codec_terms.specs.PacketReading.{BitPlace, Bits, bit_read, leaf_read_within, leaf_read}
+use Rattle.codec_terms.specs.TagTree.{Node, Tree, node_bits, node_told, no_node, node_above, path_bits, path_told, leaf_bits, leaf_told, Found, FoundTree, found_above, is_open, with_bit, path_wants, path_pushed, leaf_found, wants, pushed, leaf_value}
+use Rattle.codec_terms.specs.PacketReading.{BitPlace, Bits, bit_read, leaf_read_within}
 use Rattle.codec_laws.specs.BitsAhead.{IsAhead, Gives}
 use Rattle.codec_laws.specs.TreeReading.{no_found, IsInside, AreSame, AreSameLevels, HasPath, AreSameTrees, HasLeaf, LeafIsRead, last_node, leaf_of, known_value, IsTold}
 use Rattle.codec_laws.proofs.PackedBits.{IsAhead-bit}
-use Rattle.codec_laws.proofs.HeaderNumbers.{Gives-done, Gives-then}
+use Rattle.codec_laws.proofs.HeaderNumbers.{Gives-then}
 
 -- ---- a grid with another item
 
@@ -459,11 +458,14 @@ module _ (bytes : List ℕ) (t x y : ℕ) where
     unfolding level_told
     level_same u v inside =
         let before : IsInside level u v = inside_without level (x / 2 ^ d) (y / 2 ^ d) (node_told t low (node_above level d x y)) u v on_path.row inside in
-        let h = here u v before in
-        ((raises u v h.0).0, node_is_read.only.kept u v h.1, elim (at_place (x / 2 ^ d) (y / 2 ^ d) u v) [
-          | inl place ↦ at_node u v place.0 place.1
-          | inr apart ↦ subst₂ (λ (n : Node) (f : Found). AreSame (least' u v) (lows' u v) n f) (sym (told_apart u v apart)) (sym (node_is_read.only.others u v apart)) (raised_at u v before)
-        ])
+        let h = here u v before in (
+          (raises u v h.0).0,
+          node_is_read.only.kept u v h.1,
+          elim (at_place (x / 2 ^ d) (y / 2 ^ d) u v) [
+            | inl place ↦ at_node u v place.0 place.1
+            | inr apart ↦ subst₂ (λ (n : Node) (f : Found). AreSame (least' u v) (lows' u v) n f) (sym (told_apart u v apart)) (sym (node_is_read.only.others u v apart)) (raised_at u v before)
+          ],
+        )
       where
         at_node : (u v : ℕ) → u ≡ x / 2 ^ d → v ≡ y / 2 ^ d → AreSame (least' u v) (lows' u v) (grid_item no_node level_told u v) (grid_item no_found node_is_read.after u v)
         at_node u v p q =
@@ -617,10 +619,11 @@ unfolding path_told
 HasPath-path_told t low x y u v [] path other = tt
 HasPath-path_told t low x y u v (level ∷ below) path other =
     let told : Node = node_told t low (node_above level (length below) x y) in
-    let size : length (path_told t told.reached x y below) ≡ length below = length-path_told t told.reached x y below in
-    (subst (λ n. IsInside (with_grid_item level (x / 2 ^ length below) (y / 2 ^ length below) told) (u / 2 ^ n) (v / 2 ^ n)) (sym size)
-    (inside_with level (x / 2 ^ length below) (y / 2 ^ length below) told (u / 2 ^ length below) (v / 2 ^ length below) path.0.row other.0),
-    HasPath-path_told t told.reached x y u v below path.1 other.1)
+    let size : length (path_told t told.reached x y below) ≡ length below = length-path_told t told.reached x y below in (
+      subst (λ n. IsInside (with_grid_item level (x / 2 ^ length below) (y / 2 ^ length below) told) (u / 2 ^ n) (v / 2 ^ n)) (sym size)
+          (inside_with level (x / 2 ^ length below) (y / 2 ^ length below) told (u / 2 ^ length below) (v / 2 ^ length below) path.0.row other.0),
+      HasPath-path_told t told.reached x y u v below path.1 other.1,
+    )
 
 pub HasLeaf-leaf_told : (t at other : ℕ) (tree : Tree) → HasLeaf tree at → HasLeaf tree other → HasLeaf (leaf_told t tree at) other
 HasLeaf-leaf_told t at other tree leaf there = record {

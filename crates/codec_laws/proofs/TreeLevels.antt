@@ -1,13 +1,13 @@
 -- A new tag tree is what a reader that knows nothing has, and it has all its leaves.
-use Rattle.std.proofs.Common.{◌≡◌, ℕ, zero, suc, ◌+◌, ◌*◌, ◌-◌, ◌/◌, ◌%◌, ◌^◌, ◌<◌, ◌≤◌, refl, sym, ap, ap₂, subst, subst₂, ◌∙◌, arith, Bool, true, false, min, max, List, [], ◌∷◌, length, map, get_or, replicate, All, inl, inr, slice_index, div-add-mod'}
+use Rattle.std.proofs.Common.{◌≡◌, ℕ, zero, suc, ◌+◌, ◌*◌, ◌/◌, ◌%◌, ◌^◌, ◌<◌, ◌≤◌, refl, sym, ap, ap₂, subst, subst₂, ◌∙◌, arith, Bool, true, false, max, List, [], ◌∷◌, length, map, get_or, replicate, All, slice_index, div-add-mod'}
 use Rattle.std.specs.Prelude.{◌==◌, ◌&&◌, ⊤}
 use Rattle.std.specs.Int.{div_ceil}
 use Rattle.std.proofs.lemmas.Bool.{false≢true, and_left, and_right, ne_eqb}
 use Rattle.std.proofs.lemmas.Nat.{mod_below, div_below}
-use Rattle.std.proofs.lemmas.List.{length-map, get_or-map, length-replicate, get_or-replicate, get_or_past}
+use Rattle.std.proofs.lemmas.List.{length-map, get_or-map, length-replicate, get_or-replicate}
 use Rattle.std.proofs.lemmas.List.Elements.{All-nil, All-cons, All-head, All-tail, All-weaker}
 use Rattle.codec_terms.specs.Grid.{grid_of, grid_item}
-use Rattle.codec_terms.specs.TagTree.{pairs_joined, least_of_each, parents, is_one_node, levels_from, value_levels, Node, Tree, new_node, no_node, node_above, new_tree, Found, FoundTree, nothing_found, blank_grid, blank_levels, blank_tree}
+use Rattle.codec_terms.specs.TagTree.{pairs_joined, least_of_each, parents, is_one_node, levels_from, value_levels, Node, new_node, no_node, new_tree, Found, nothing_found, blank_grid, blank_levels, blank_tree}
 use Rattle.codec_laws.specs.Bounds.{IsRowOf, IsGridOf}
 use Rattle.codec_laws.specs.TreeReading.{no_found, IsInside, AreSame, AreSameLevels, HasPath, AreSameTrees, HasLeaf, last_node, leaf_of}
 use Rattle.codec_laws.proofs.Lists.{All-each}
@@ -136,11 +136,13 @@ levels_raised : (levels : List (List (List Node))) (found : List (List (List Fou
 levels_raised [] [] P P' least low least' low' raises h = tt
 levels_raised [] (f ∷ found) P P' least low least' low' raises h = absurd h
 levels_raised (level ∷ levels) [] P P' least low least' low' raises h = absurd h
-levels_raised (level ∷ levels) (f ∷ found) P P' least low least' low' raises h =
-    (here, levels_raised levels found _ _ _ _ _ _ (λ x y inside.
-    let r = raises (x / 2) (y / 2) (h.0 (x / 2) (y / 2) inside).0 in
-    let same = (here (x / 2) (y / 2) inside).2 in
-    (inside, omega (arith, r.1), same.within, omega arith)) h.1)
+levels_raised (level ∷ levels) (f ∷ found) P P' least low least' low' raises h = (
+  here,
+  levels_raised levels found _ _ _ _ _ _ (λ x y inside.
+      let r = raises (x / 2) (y / 2) (h.0 (x / 2) (y / 2) inside).0 in
+      let same = (here (x / 2) (y / 2) inside).2 in
+      (inside, omega (arith, r.1), same.within, omega arith)) h.1,
+)
   where
     here : (x y : ℕ) → IsInside level x y → P' x y × IsInside f x y × AreSame (least' x y) (low' x y) (grid_item no_node level x y) (grid_item no_found f x y)
     here x y inside =
@@ -158,23 +160,27 @@ BelowNew rows below others =
 new_level : (P : ℕ → ℕ → Type 0) (least low : ℕ → ℕ → ℕ) (columns : ℕ) (rows : List (List ℕ)) (below : List (List (List Node))) (others : List (List (List Found))) → AreRows columns rows
     → ((x y : ℕ) → x < columns → y < length rows → P x y × (low x y ≡ 0) × (least x y ≤ grid_item 0 rows x y))
     → BelowNew rows below others → AreSameLevels P least low (nodes rows ∷ below) (blank_grid columns (length rows) ∷ others)
-new_level P least low columns rows below others each above h =
-    (here, levels_raised below others _ _ _ _ _ _ (λ x y inside.
-    let w = of_nodes columns rows (x / 2) (y / 2) each inside in
-    let a = above (x / 2) (y / 2) w.wide w.high in
-    let item = node_item columns rows (x / 2) (y / 2) each w.wide w.high in
-    let none : (grid_item no_node (nodes rows) (x / 2) (y / 2)).reached ≡ 0 = ap (λ (n : Node). n.reached) item in
-    (inside, omega (arith, none), omega (arith, none, a.1), omega arith)) h)
+new_level P least low columns rows below others each above h = (
+  here,
+  levels_raised below others _ _ _ _ _ _ (λ x y inside.
+      let w = of_nodes columns rows (x / 2) (y / 2) each inside in
+      let a = above (x / 2) (y / 2) w.wide w.high in
+      let item = node_item columns rows (x / 2) (y / 2) each w.wide w.high in
+      let none : (grid_item no_node (nodes rows) (x / 2) (y / 2)).reached ≡ 0 = ap (λ (n : Node). n.reached) item in
+      (inside, omega (arith, none), omega (arith, none, a.1), omega arith)) h,
+)
   where
     here : (x y : ℕ) → IsInside (nodes rows) x y → P x y × IsInside (blank_grid columns (length rows)) x y
         × AreSame (least x y) (low x y) (grid_item no_node (nodes rows) x y) (grid_item no_found (blank_grid columns (length rows)) x y)
     here x y inside =
         let w = of_nodes columns rows x y each inside in
-        let a = above x y w.wide w.high in
-        (a.0, inside_blank columns (length rows) x y w.wide w.high,
-        subst (λ n. AreSame (least x y) n (grid_item no_node (nodes rows) x y) (grid_item no_found (blank_grid columns (length rows)) x y)) (sym a.1)
-        (subst₂ (λ (n : Node) (f : Found). AreSame (least x y) 0 n f) (sym (node_item columns rows x y each w.wide w.high)) (sym (blank_item columns (length rows) x y w.wide w.high))
-        (AreSame-new (least x y) (grid_item 0 rows x y) a.2)))
+        let a = above x y w.wide w.high in (
+          a.0,
+          inside_blank columns (length rows) x y w.wide w.high,
+          subst (λ n. AreSame (least x y) n (grid_item no_node (nodes rows) x y) (grid_item no_found (blank_grid columns (length rows)) x y)) (sym a.1)
+              (subst₂ (λ (n : Node) (f : Found). AreSame (least x y) 0 n f) (sym (node_item columns rows x y each w.wide w.high)) (sym (blank_item columns (length rows) x y w.wide w.high))
+              (AreSame-new (least x y) (grid_item 0 rows x y) a.2)),
+        )
 
 -- ---- from the leaves up
 
@@ -202,10 +208,11 @@ below_parents columns rows below others each h =
     let side : x / 2 < div_ceil columns 2 = omega arith in
     let top : y / 2 < length (parents rows) = rw (length-parents rows) (omega arith) in
     let up = AreRows-parents columns rows each in
-    let item = node_item (div_ceil columns 2) (parents rows) (x / 2) (y / 2) up side top in
-    (inside_nodes (div_ceil columns 2) (parents rows) (x / 2) (y / 2) up side top,
-    ap (λ (n : Node). max 0 n.reached) item,
-    subst (λ (n : Node). n.value ≤ grid_item 0 rows x y) (sym item) (parents-le columns rows x y each wide high))) h
+    let item = node_item (div_ceil columns 2) (parents rows) (x / 2) (y / 2) up side top in (
+      inside_nodes (div_ceil columns 2) (parents rows) (x / 2) (y / 2) up side top,
+      ap (λ (n : Node). max 0 n.reached) item,
+      subst (λ (n : Node). n.value ≤ grid_item 0 rows x y) (sym item) (parents-le columns rows x y each wide high),
+    )) h
 
 root_level : (columns : ℕ) (rows : List (List ℕ)) (below : List (List (List Node))) (others : List (List (List Found))) → AreRows columns rows → BelowNew rows below others
     → AreSameLevels (λ x y. ⊤) (λ x y. 0) (λ x y. 0) (nodes rows ∷ below) (blank_grid columns (length rows) ∷ others)

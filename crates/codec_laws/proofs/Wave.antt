@@ -1,17 +1,16 @@
 -- The transform keeps an area's size, and its clamp every sample within its bounds.
-use Rattle.std.proofs.Common.{◌≡◌, ℕ, zero, suc, ◌+◌, ◌*◌, ◌-◌, ◌/◌, ◌^◌, ◌<◌, ◌≤◌, refl, sym, ap, ◌∙◌, arith, Bool, true, false, cond, List, [], ◌∷◌, ◌++◌, length, map, All, ℤ, pos, negsuc, neg_ℤ, ◌+ℤ◌, ◌-ℤ◌, ◌*ℤ◌, unsigned_abs}
-use Rattle.std.specs.Prelude.{nat_lt, int_lt, ⊤}
-use Rattle.std.specs.Int.{int_shr, int_max, int_min}
+use Rattle.std.proofs.Common.{◌≡◌, ℕ, zero, suc, ◌+◌, ◌*◌, ◌-◌, ◌^◌, ◌<◌, ◌≤◌, refl, ◌∙◌, arith, Bool, true, false, cond, List, [], ◌∷◌, ◌++◌, length, map, All, ℤ, pos, negsuc, neg_ℤ}
+use Rattle.std.specs.Prelude.{nat_lt, ⊤}
+use Rattle.std.specs.Int.{int_max}
 use Rattle.std.proofs.lemmas.List.{length-map, length-append}
 use Rattle.std.proofs.lemmas.List.FromFn.{length-map-range_with_len}
-use Rattle.std.proofs.lemmas.List.Elements.{All-nil, All-cons, All-weaker}
+use Rattle.std.proofs.lemmas.List.Elements.{All-weaker}
 use Rattle.std.proofs.lemmas.Bool.{ltb-false}
-use Rattle.std.proofs.lemmas.Int.{ints, unsigned_abs-mul}
 use Rattle.codec_terms.specs.declared.picture.Shape.{Shape}
 use Rattle.codec_terms.specs.Grid.{part_of, columns_of, grid_of}
 use Rattle.codec_terms.specs.Wavelet.{lifted, four_steps, even_samples, odd_samples, transformed_line, scaled, clamped, level, low_count, transformed}
 use Rattle.codec_terms.specs.Encode.{wave}
-use Rattle.codec_laws.specs.Bounds.{IsRowOf, IsGridOf, IsClamped, IsPictureSize}
+use Rattle.codec_laws.specs.Bounds.{IsRowOf, IsGridOf, IsClamped}
 use Rattle.codec_laws.proofs.Lists.{All-each}
 use Rattle.codec_laws.proofs.Grids.{IsRowOf-map, IsGridOf-map, IsGridOf-part_of, IsGridOf-grid_of, IsGridOf-columns_of, IsGridOf-with_corner}
 

@@ -1,5 +1,5 @@
 -- Words of laws on sizes and on how great samples and coefficients are.
-use Rattle.std.specs.Prelude.{◌≡◌, ◌<◌, ◌≤◌, ℕ, ◌*◌, ◌^◌, List, length, ℤ, unsigned_abs, All}
+use Rattle.std.specs.Prelude.{◌≡◌, ◌<◌, ◌≤◌, ℕ, ◌^◌, List, length, ℤ, unsigned_abs, All}
 use Rattle.codec_terms.specs.declared.picture.Shape.{Shape}
 use Rattle.codec_terms.specs.declared.picture.Band.{Band}
 use Rattle.codec_terms.specs.Bands.{plane_limit, all_bands, band_values}

@@ -1,5 +1,5 @@
 -- What a tag tree's writer and its reader have in common.
-use Rattle.std.specs.Prelude.{◌≡◌, ◌<◌, ◌≤◌, ℕ, zero, suc, ◌/◌, ◌^◌, max, Bool, true, List, [], ◌∷◌, length, slice_index_or, ⊤, ◌%◌, Option, Some, None, if◌then◌else◌, ◌||◌, nat_lt}
+use Rattle.std.specs.Prelude.{◌≡◌, ◌<◌, ◌≤◌, ℕ, ◌/◌, ◌^◌, max, Bool, true, List, [], ◌∷◌, length, slice_index_or, ⊤, ◌%◌, Option, Some, None, if◌then◌else◌, ◌||◌, nat_lt}
 use Rattle.codec_terms.specs.Grid.{grid_item}
 use Rattle.codec_terms.specs.TagTree.{Node, Tree, no_node, node_above, leaf_told, Found, FoundTree}
 use Rattle.codec_terms.specs.PacketReading.{BitPlace, leaf_read}

@@ -36,7 +36,7 @@ pub fn block_laws()
 pub fn precinct_laws()
     ensures { (shape : Shape)
         → All (λ band. (x y : ℕ) → x < block_columns shape band → y < block_rows shape band
-            → OnePrecinct shape band x y) all_bands }
+        → OnePrecinct shape band x y) all_bands }
 {}
 
 /// A packet's part of a sub-band has as many code-blocks as columns times rows.
