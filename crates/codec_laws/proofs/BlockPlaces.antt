@@ -1,18 +1,20 @@
 -- Each code-block of a sub-band stands in one precinct, and the code-blocks give the sub-band back.
-use Rattle.std.proofs.Common.{◌≡◌, ℕ, zero, suc, ◌+◌, ◌*◌, ◌/◌, ◌%◌, ◌<◌, ◌≤◌, ap, ap₂, ◌∙◌, arith, List, [], ◌∷◌, length, take, drop, get_or, All, ℤ, pos}
+use Rattle.std.proofs.Common.{◌≡◌, ℕ, zero, suc, ◌+◌, ◌*◌, ◌/◌, ◌%◌, ◌<◌, ◌≤◌, ap, ap₂, ◌∙◌, arith, List, [], ◌∷◌, length, take, drop, get_or, All, ℤ, pos, map, sym, refl}
 use Rattle.std.specs.Prelude.{⊤}
 use Rattle.std.specs.Int.{div_ceil}
 use Rattle.std.specs.List.{flat_map, range_with_len}
 use Rattle.std.proofs.lemmas.Nat.{mul-add-lt, div-mul-add, mod-mul-add}
-use Rattle.std.proofs.lemmas.List.{length-map, length-append, take_all}
+use Rattle.std.proofs.lemmas.List.{length-map, length-append, take_all, get_or-map}
 use Rattle.std.proofs.lemmas.List.FromFn.{length-map-range_with_len, get_or-map-range_with_len}
-use Rattle.std.proofs.lemmas.List.Elements.{All-weaker, All-from_recursion}
+use Rattle.std.proofs.lemmas.List.Elements.{All-weaker, All-from_recursion, All-map}
 use Rattle.codec_terms.specs.declared.picture.Shape.{Shape}
 use Rattle.codec_terms.specs.declared.picture.Band.{Band}
-use Rattle.codec_terms.specs.Bands.{band_columns, band_rows, band_length, all_bands, component_bands}
+use Rattle.codec_terms.specs.declared.packet.PacketBlock.{PacketBlock}
+use Rattle.std.proofs.lemmas.List.Folds.{flat_map-map}
+use Rattle.codec_terms.specs.Bands.{band_columns, band_rows, band_length, all_bands, component_bands, lowest_plane, band_values}
 use Rattle.codec_terms.specs.Grid.{grid_of, part_of}
 use Rattle.codec_terms.specs.Precincts.{BlockArea, group_length, block_columns, block_rows, precinct_columns, precinct_rows, resolution, blocks_in, HasPrecincts}
-use Rattle.codec_terms.specs.Codestream.{block_of, row_places, block_places, packet_band}
+use Rattle.codec_terms.specs.Codestream.{block_of, row_places, block_places, packet_band, placed_block, packet_block}
 use Rattle.codec_terms.specs.StreamReading.{coefficient_at, coefficients_of_blocks}
 use Rattle.codec_terms.proofs.BlockLaws.{has_precincts}
 use Rattle.codec_laws.specs.Bounds.{IsRowOf}
@@ -62,10 +64,6 @@ one_precinct shape band x y has wide high =
           (one_group (block_columns shape band) x (other % across) holds.left holds.right)
           (one_group (block_rows shape band) y (other / across) holds.top holds.bottom);
     }
-
--- a fact of one band at all places
-OnePrecincts : Shape → Band → Type 0
-OnePrecincts shape band = (x y : ℕ) → x < block_columns shape band → y < block_rows shape band → OnePrecinct shape band x y
 
 pub one_precincts : (shape : Shape) → All (λ band. (x y : ℕ) → x < block_columns shape band → y < block_rows shape band → OnePrecinct shape band x y) all_bands
 unfolding all_bands
@@ -150,3 +148,29 @@ coefficients_of_blocks-is shape band values whole =
   where
     none : 0 * band_columns shape band ≡ 0
     none = omega arith
+
+-- ---- and where a packet has them
+
+get_or-block_places : (area : BlockArea) (x y : ℕ) (d : ℕ × ℕ) → x < area.columns → y < area.rows → get_or (block_places area) (y * area.columns + x) d ≡ (area.x + x, area.y + y)
+get_or-block_places area x y d wide high =
+    let grid : List (List (ℕ × ℕ)) = map (row_places area) (range_with_len area.y area.rows) in
+    let sizes : All (λ (row : List (ℕ × ℕ)). length row ≡ area.columns) grid =
+    All-map (λ (row : List (ℕ × ℕ)). length row ≡ area.columns) (row_places area) (range_with_len area.y area.rows)
+    (All-each (λ y. length (row_places area y) ≡ area.columns) (λ y. length-map-range_with_len (λ x. (x, y)) area.x area.columns) (range_with_len area.y area.rows)) in
+    let count : length grid ≡ area.rows = length-map-range_with_len (row_places area) area.y area.rows in
+    ap (λ (places : List (ℕ × ℕ)). get_or places (y * area.columns + x) d) (sym (flat_map-map (λ (row : List (ℕ × ℕ)). row) (row_places area) (range_with_len area.y area.rows)))
+    ∙ get_or-items_of area.columns grid x y d sizes (rw count high) wide
+    ∙ ap (λ (row : List (ℕ × ℕ)). get_or row x d) (get_or-map-range_with_len (row_places area) area.y area.rows y (area.y + y) [] high refl)
+    ∙ get_or-map-range_with_len (λ x. (x, area.y + y)) area.x area.columns x (area.x + x) d wide refl
+
+pub get_or-packet_band : (shape : Shape) (q : List ℤ) (cut precinct : ℕ) (band : Band) (x y : ℕ) (d : PacketBlock)
+    → x < (blocks_in shape band precinct).columns → y < (blocks_in shape band precinct).rows
+    → get_or (packet_band shape q cut precinct band).blocks (y * (blocks_in shape band precinct).columns + x) d
+    ≡ packet_block band (lowest_plane cut band) (block_of shape band (band_values shape q band) ((blocks_in shape band precinct).x + x) ((blocks_in shape band precinct).y + y))
+unfolding packet_band
+get_or-packet_band shape q cut precinct band x y d wide high =
+    let area : BlockArea = blocks_in shape band precinct in
+    let put : ℕ × ℕ → PacketBlock = placed_block shape band (band_values shape q band) (lowest_plane cut band) in
+    let inside : y * area.columns + x < length (block_places area) = rw (length-block_places area) (mul-add-lt y area.columns x area.rows high wide) in
+    get_or-map put (block_places area) (y * area.columns + x) (0, 0) d inside
+    ∙ ap put (get_or-block_places area x y (0, 0) wide high)

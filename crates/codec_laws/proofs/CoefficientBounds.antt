@@ -62,6 +62,7 @@ IsRowOf-xyz_plane power weights (suc n) (r1 ∷ r0 ∷ g1 ∷ g0 ∷ b1 ∷ b0 �
       each = All-cons IsCode (xyz_value power weights (r1 * 256 + r0) (g1 * 256 + g0) (b1 * 256 + b0)) (xyz_plane power weights raw) (IsCode-code_value _) rest.each;
     }
 
+-- how great a sum, a difference and a shifted value can be
 abs_add : (a b : ℤ) → unsigned_abs (a +ℤ b) ≤ unsigned_abs a + unsigned_abs b
 abs_add a b = grind (arith, ints)
 
@@ -76,10 +77,7 @@ abs_eighth : (v : ℤ) → unsigned_abs v ≤ 2 ^ 27 → unsigned_abs (int_shr v
 abs_eighth (pos n) small = omega arith
 abs_eighth (negsuc n) small = omega arith
 
--- three products whose factors come to 2^16 in all
-three_products : (k l m a b c : ℕ) → k + l + m ≤ 2 ^ 16 → a ≤ 2 ^ 11 → b ≤ 2 ^ 11 → c ≤ 2 ^ 11 → k * a + l * b + m * c ≤ 2 ^ 27
-three_products k l m a b c total p q r = grind arith
-
+-- a component's formula, of which the weights come to at most 2^16 in all
 IsSmall : (ℤ → ℤ → ℤ → ℤ) → Type 0
 IsSmall f = (a b c : ℤ) → unsigned_abs a ≤ 2 ^ 11 → unsigned_abs b ≤ 2 ^ 11 → unsigned_abs c ≤ 2 ^ 11 → unsigned_abs (f a b c) ≤ 2 ^ 24
 

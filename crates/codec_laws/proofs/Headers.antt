@@ -104,12 +104,6 @@ AllAccepted-by_test (rule ∷ rules) (field ∷ fields) e =
     let a = and_parts (accepts_field rule field) (accepts_fields rules fields) e in
     (Accepted-by_test rule field a.0, AllAccepted-by_test rules fields a.1)
 
-AllAccepted-append : (rules more : List FieldRule) (fields others : List (List ℕ)) → AllAccepted rules fields → AllAccepted more others → AllAccepted (rules ++ more) (fields ++ others)
-AllAccepted-append [] more [] others a b = b
-AllAccepted-append [] more (field ∷ fields) others a b = absurd a
-AllAccepted-append (rule ∷ rules) more [] others a b = absurd a
-AllAccepted-append (rule ∷ rules) more (field ∷ fields) others a b = (a.0, AllAccepted-append rules more fields others a.1 b)
-
 Accepted-number : (n m : ℕ) → n < 2 ^ 32 → n ≡ m → Accepted (fixed 4 m) (four_bytes n)
 Accepted-number n m small same = record { size = refl; some = omega arith; value = rw (number_of-four_bytes n small, same) (eq-eqb m m refl) }
 

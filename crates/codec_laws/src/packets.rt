@@ -1,15 +1,16 @@
-ghost use Rattle.std.specs.Prelude.{◌≡◌, ◌<◌, ◌≤◌, ◌+◌, ◌*◌, ◌^◌, ℕ, ℤ, Bool, false, List, [], ◌∷◌, ◌++◌, All, length, slice_index, Ok};
+ghost use Rattle.std.specs.Prelude.{◌≡◌, ◌<◌, ◌≤◌, ◌+◌, ◌*◌, ◌^◌, ℕ, ℤ, Bool, false, List, [], ◌∷◌, ◌++◌, All, length, slice_index, slice_index_or, Ok};
 ghost use Rattle.std.specs.List.{flat_map};
 ghost use Rattle.codec_terms.specs.declared.picture.Shape.{Shape};
 ghost use Rattle.codec_terms.specs.declared.picture.Band.{Band};
-ghost use Rattle.codec_terms.specs.Bands.{band_length, all_bands};
+ghost use Rattle.codec_terms.specs.declared.packet.PacketBlock.{PacketBlock};
+ghost use Rattle.codec_terms.specs.Bands.{band_length, all_bands, lowest_plane, band_values};
 ghost use Rattle.codec_terms.specs.Mq.{Decision, codeword};
-ghost use Rattle.codec_terms.specs.Precincts.{Precinct, block_columns, block_rows};
+ghost use Rattle.codec_terms.specs.Precincts.{Precinct, block_columns, block_rows, blocks_in};
 ghost use Rattle.codec_terms.specs.Bits.{low_bits};
 ghost use Rattle.codec_terms.specs.TagTree.{Tree, FoundTree, new_node, new_tree, blank_tree, leaf_bits, leaf_told, leaf_value};
 ghost use Rattle.codec_terms.specs.PacketHeader.{pass_bits, length_bits, packed, ends_with_ff};
 ghost use Rattle.codec_terms.specs.PacketReading.{BitPlace, bit_read, number_read, pass_count_read, size_read, header_end};
-ghost use Rattle.codec_terms.specs.Codestream.{packet_band, precinct_packet};
+ghost use Rattle.codec_terms.specs.Codestream.{block_of, packet_block, packet_band, precinct_packet};
 ghost use Rattle.codec_terms.specs.StreamReading.{coefficients_of_blocks};
 ghost use Rattle.codec_laws.specs.BitsAhead.{IsAhead, start_at, Gives};
 ghost use Rattle.codec_laws.specs.Codewords.{HasNoMarker};
@@ -39,11 +40,17 @@ pub fn precinct_laws()
         → OnePrecinct shape band x y) all_bands }
 {}
 
-/// A packet's part of a sub-band has as many code-blocks as columns times rows.
+/// A packet's part of a sub-band has as many code-blocks as columns times rows, and each of its precinct's code-blocks
+/// stands at its place in raster order.
 pub fn packet_band_laws()
-    ensures { (shape : Shape) (q : List ℤ) (cut precinct : ℕ) (band : Band)
+    ensures count { (shape : Shape) (q : List ℤ) (cut precinct : ℕ) (band : Band)
         → length (packet_band shape q cut precinct band).blocks
         ≡ (packet_band shape q cut precinct band).columns * (packet_band shape q cut precinct band).rows }
+    ensures places { (shape : Shape) (q : List ℤ) (cut precinct : ℕ) (band : Band) (x y : ℕ) (d : PacketBlock)
+        → x < (blocks_in shape band precinct).columns → y < (blocks_in shape band precinct).rows
+        → slice_index_or (packet_band shape q cut precinct band).blocks (y * (blocks_in shape band precinct).columns + x) d
+        ≡ packet_block band (lowest_plane cut band) (block_of shape band (band_values shape q band)
+        ((blocks_in shape band precinct).x + x) ((blocks_in shape band precinct).y + y)) }
 {}
 
 /// The bits that a header's bytes pack are read back one by one, whatever stands around the bytes, and where they end
