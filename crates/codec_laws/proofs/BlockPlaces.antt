@@ -65,14 +65,17 @@ one_precinct shape band x y has wide high =
           (one_group (block_rows shape band) y (other / across) holds.top holds.bottom);
     }
 
-pub one_precincts : (shape : Shape) → All (λ band. (x y : ℕ) → x < block_columns shape band → y < block_rows shape band → OnePrecinct shape band x y) all_bands
+pub all_have_precincts : (shape : Shape) → All (HasPrecincts shape) all_bands
 unfolding all_bands
+all_have_precincts shape =
+    All-flat_map (HasPrecincts shape) component_bands (0 ∷ 1 ∷ 2 ∷ [])
+    (All-each (λ component. All (HasPrecincts shape) (component_bands component))
+    (λ component. All-from_recursion (HasPrecincts shape) (component_bands component) (has_precincts shape component)) (0 ∷ 1 ∷ 2 ∷ []))
+
+pub one_precincts : (shape : Shape) → All (λ band. (x y : ℕ) → x < block_columns shape band → y < block_rows shape band → OnePrecinct shape band x y) all_bands
 one_precincts shape =
     All-weaker (HasPrecincts shape) (λ band. (x y : ℕ) → x < block_columns shape band → y < block_rows shape band → OnePrecinct shape band x y)
-    (λ band has x y wide high. one_precinct shape band x y has wide high) all_bands
-    (All-flat_map (HasPrecincts shape) component_bands (0 ∷ 1 ∷ 2 ∷ [])
-    (All-each (λ component. All (HasPrecincts shape) (component_bands component))
-    (λ component. All-from_recursion (HasPrecincts shape) (component_bands component) (has_precincts shape component)) (0 ∷ 1 ∷ 2 ∷ [])))
+    (λ band has x y wide high. one_precinct shape band x y has wide high) all_bands (all_have_precincts shape)
 
 -- ---- blocks of a packet's band
 

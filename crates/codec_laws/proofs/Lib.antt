@@ -1,5 +1,6 @@
 pub mod CoefficientBounds
 pub mod BlockPlaces
+pub mod BlocksFound
 pub mod Codewords
 pub mod Contexts
 pub mod Cuts

@@ -3,8 +3,10 @@ use Rattle.std.specs.Prelude.{◌≡◌, ◌<◌, ◌≤◌, ℕ, ◌+◌, ◌*�
 use Rattle.std.specs.List.{range_with_len}
 use Rattle.codec_terms.specs.declared.picture.Shape.{Shape}
 use Rattle.codec_terms.specs.declared.picture.Band.{Band}
-use Rattle.codec_terms.specs.Precincts.{BlockArea, precinct_columns, precinct_rows, resolution, blocks_in, block_columns, block_rows}
-use Rattle.codec_terms.specs.Codestream.{block_of}
+use Rattle.codec_terms.specs.declared.packet.PacketBand.{PacketBand}
+use Rattle.codec_terms.specs.Bands.{resolution_bands}
+use Rattle.codec_terms.specs.Precincts.{BlockArea, precinct_columns, precinct_rows, resolution, blocks_in, block_columns, block_rows, Precinct, packet_order}
+use Rattle.codec_terms.specs.Codestream.{block_of, packet_band}
 
 -- block (x, y) of a sub-band is one of an area's
 pub record IsInArea (area : BlockArea) (x y : ℕ) : Type 0 where
@@ -28,3 +30,11 @@ row_of_blocks shape band values by =
 
 abbrev pub grid_of_blocks : Shape → Band → List ℤ → List (List (List ℤ))
 grid_of_blocks shape band values = map (row_of_blocks shape band values) (range_with_len 0 (block_rows shape band))
+
+-- what the packets of a component have of each sub-band, packet by packet
+abbrev pub bands_of_packet : Shape → List ℤ → ℕ → ℕ → Precinct → List PacketBand
+bands_of_packet shape q cut component precinct =
+    map (packet_band shape q cut precinct.number) (resolution_bands component precinct.resolution)
+
+abbrev pub packets_of : Shape → List ℤ → ℕ → ℕ → List (List PacketBand)
+packets_of shape q cut component = map (bands_of_packet shape q cut component) (packet_order shape)

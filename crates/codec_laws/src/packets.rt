@@ -11,10 +11,10 @@ ghost use Rattle.codec_terms.specs.TagTree.{Tree, FoundTree, new_node, new_tree,
 ghost use Rattle.codec_terms.specs.PacketHeader.{pass_bits, length_bits, packed, ends_with_ff};
 ghost use Rattle.codec_terms.specs.PacketReading.{BitPlace, bit_read, number_read, pass_count_read, size_read, header_end};
 ghost use Rattle.codec_terms.specs.Codestream.{block_of, packet_block, packet_band, precinct_packet};
-ghost use Rattle.codec_terms.specs.StreamReading.{coefficients_of_blocks};
+ghost use Rattle.codec_terms.specs.StreamReading.{read_block, coefficients_of_blocks};
 ghost use Rattle.codec_laws.specs.BitsAhead.{IsAhead, start_at, Gives};
 ghost use Rattle.codec_laws.specs.Codewords.{HasNoMarker};
-ghost use Rattle.codec_laws.specs.Places.{OnePrecinct, grid_of_blocks};
+ghost use Rattle.codec_laws.specs.Places.{OnePrecinct, grid_of_blocks, packets_of};
 ghost use Rattle.codec_laws.specs.TreeReading.{AreSameTrees, HasLeaf, LeafIsRead, IsTold, leaf_of, known_value};
 
 /// A codeword doesn't end with FF, and no marker begins within codewords that stand behind one another, within a
@@ -33,11 +33,15 @@ pub fn block_laws()
         → coefficients_of_blocks shape band (grid_of_blocks shape band values) ≡ values }
 {}
 
-/// Each code-block of a picture's sub-band stands in exactly one precinct.
+/// Each code-block of a picture's sub-band stands in exactly one precinct, and a reader finds it in that one's packet.
 pub fn precinct_laws()
-    ensures { (shape : Shape)
+    ensures one { (shape : Shape)
         → All (λ band. (x y : ℕ) → x < block_columns shape band → y < block_rows shape band
         → OnePrecinct shape band x y) all_bands }
+    ensures found { (shape : Shape) (q : List ℤ) (cut : ℕ)
+        → All (λ band. (x y : ℕ) → x < block_columns shape band → y < block_rows shape band
+        → read_block shape (packets_of shape q cut band.component) band x y
+        ≡ packet_block band (lowest_plane cut band) (block_of shape band (band_values shape q band) x y)) all_bands }
 {}
 
 /// A packet's part of a sub-band has as many code-blocks as columns times rows, and each of its precinct's code-blocks
