@@ -1,5 +1,5 @@
 -- The bits that tell of a tag tree's leaf are read back.
-use Rattle.std.proofs.Common.{◌≡◌, ◌≢◌, ℕ, zero, suc, ◌+◌, ◌*◌, ◌-◌, ◌/◌, ◌%◌, ◌^◌, ◌<◌, ◌≤◌, ◌⊎◌, refl, sym, ap, subst, subst₂, ◌∙◌, arith, Bool, true, false, min, max, List, [], ◌∷◌, ◌++◌, length, get_or, set, replicate, Ok, Err, Result, Some, append_assoc, append-nil, inl, inr}
+use Rattle.std.proofs.Common.{◌≡◌, ◌≢◌, ℕ, zero, suc, ◌+◌, ◌*◌, ◌-◌, ◌/◌, ◌%◌, ◌^◌, ◌<◌, ◌≤◌, ◌⊎◌, refl, sym, ap, subst, subst₂, ◌∙◌, arith, Bool, true, false, min, max, List, [], ◌∷◌, ◌++◌, length, get_or, set, replicate, Ok, Err, Result, Some, append_assoc, append-nil, inl, inr, ap₂}
 use Rattle.std.specs.Prelude.{if◌then◌else◌, nat_lt, ⊤}
 use Rattle.std.proofs.lemmas.Bool.{cond_both, cases_Bool, cases_lt, cases_eq, lt-ltb, le-ltb, false≢true, or_left, or_right, or_from}
 use Rattle.std.proofs.lemmas.Nat.{shr-shr}
@@ -661,3 +661,65 @@ last_told t low x y (level ∷ next ∷ below) path = last_told t (node_told t l
 
 pub leaf_of-leaf_told : (t at : ℕ) (tree : Tree) → HasLeaf tree at → IsTold t (leaf_of tree at) (leaf_of (leaf_told t tree at) at)
 leaf_of-leaf_told t at tree leaf = last_told t 0 (at % tree.columns) (at / tree.columns) tree.levels leaf.path
+
+-- ---- thresholds above a leaf's value
+
+-- a node's value isn't above that of a leaf below it
+value-le-last : (levels : List (List (List Node))) (found : List (List (List Found))) (P : ℕ → ℕ → Type 0) (least low : ℕ → ℕ → ℕ) (x y : ℕ) (level : List (List Node)) (f : List (List Found))
+    → AreSameLevels P least low (level ∷ levels) (f ∷ found) → HasPath x y (level ∷ levels) → (node_above level (length levels) x y).value ≤ (last_node (level ∷ levels) x y).value
+value-le-last [] found P least low x y level f same path = omega arith
+value-le-last (next ∷ below) [] P least low x y level f same path = absurd same.1
+value-le-last (next ∷ below) (g ∷ found) P least low x y level f same path =
+    let up : (grid_item no_node level (x / 2 ^ length below / 2) (y / 2 ^ length below / 2)).value ≤ (node_above next (length below) x y).value =
+    (same.1.0 (x / 2 ^ length below) (y / 2 ^ length below) path.1.0).2.above in
+    let here : (node_above level (suc (length below)) x y).value ≤ (node_above next (length below) x y).value =
+    subst₂ (λ (u v : ℕ). (grid_item no_node level u v).value ≤ (node_above next (length below) x y).value) (halved x (length below)) (halved y (length below)) up in
+    let rest = value-le-last below found _ _ _ x y next g same.1 path.1 in
+    omega (arith, here, rest)
+
+-- so its bits are the same for all thresholds above that
+record AreAlike (t t' low x y : ℕ) (levels : List (List (List Node))) : Type 0 where
+  bits : path_bits t low x y levels ≡ path_bits t' low x y levels
+  told : path_told t low x y levels ≡ path_told t' low x y levels
+
+node_bits-alike : (t t' low : ℕ) (node : Node) → node.value < t → node.value < t' → node_bits t low node ≡ node_bits t' low node
+node_bits-alike t t' low node below below' =
+    let least : min node.value t ≡ node.value = omega arith in
+    let least' : min node.value t' ≡ node.value = omega arith in
+    rw (least, least', lt-ltb node.value t below, lt-ltb node.value t' below') refl
+
+node_told-alike : (t t' low : ℕ) (node : Node) → node.value < t → node.value < t' → node_told t low node ≡ node_told t' low node
+node_told-alike t t' low node below below' =
+    let least : min node.value t ≡ node.value = omega arith in
+    let least' : min node.value t' ≡ node.value = omega arith in
+    rw (least, least', lt-ltb node.value t below, lt-ltb node.value t' below') refl
+
+path_alike : (levels : List (List (List Node))) (found : List (List (List Found))) (P : ℕ → ℕ → Type 0) (least lows : ℕ → ℕ → ℕ) (t t' low x y : ℕ) → AreSameLevels P least lows levels found → HasPath x y levels
+    → (last_node levels x y).value < t → (last_node levels x y).value < t' → AreAlike t t' low x y levels
+unfolding path_bits path_told
+path_alike [] found P least lows t t' low x y same path below below' = record { bits = refl; told = refl }
+path_alike (level ∷ levels) [] P least lows t t' low x y same path below below' = absurd same
+path_alike (level ∷ []) (f ∷ found) P least lows t t' low x y same path below below' =
+    let node : Node = node_above level 0 x y in
+    let told = node_told-alike t t' low node below below' in
+    record {
+      bits = ap (λ bits. bits ++ []) (node_bits-alike t t' low node below below');
+      told = ap (λ (n : Node). with_grid_item level (x / 2 ^ 0) (y / 2 ^ 0) n ∷ []) told;
+    }
+path_alike (level ∷ next ∷ rest) (f ∷ found) P least lows t t' low x y same path below below' =
+    let node : Node = node_above level (suc (length rest)) x y in
+    let within : node.value ≤ (last_node (next ∷ rest) x y).value = value-le-last (next ∷ rest) found P least lows x y level f same path in
+    let told = node_told-alike t t' low node (omega (arith, within)) (omega (arith, within)) in
+    let later = path_alike (next ∷ rest) found _ _ _ t t' (node_told t low node).reached x y same.1 path.1 below below' in
+    record {
+      bits = ap₂ (λ xs ys. xs ++ ys) (node_bits-alike t t' low node (omega (arith, within)) (omega (arith, within)))
+          (later.bits ∙ ap (λ (n : Node). path_bits t' n.reached x y (next ∷ rest)) told);
+      told = ap₂ (λ (n : Node) (ls : List (List (List Node))). with_grid_item level (x / 2 ^ suc (length rest)) (y / 2 ^ suc (length rest)) n ∷ ls) told
+          (later.told ∙ ap (λ (n : Node). path_told t' n.reached x y (next ∷ rest)) told);
+    }
+
+pub leaf_bits-alike : (t t' at : ℕ) (tree : Tree) (found : FoundTree) → AreSameTrees tree found → HasLeaf tree at → (leaf_of tree at).value < t → (leaf_of tree at).value < t'
+    → (leaf_bits t tree at ≡ leaf_bits t' tree at) × (leaf_told t tree at ≡ leaf_told t' tree at)
+leaf_bits-alike t t' at tree found same leaf below below' =
+    let alike = path_alike tree.levels found.levels (λ x y. ⊤) (λ x y. 0) (λ x y. 0) t t' 0 (at % tree.columns) (at / tree.columns) same.levels leaf.path below below' in
+    (alike.bits, ap (λ (levels : List (List (List Node))). let told : Tree = record tree { levels = levels } in told) alike.told)

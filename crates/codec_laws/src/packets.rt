@@ -90,6 +90,10 @@ pub fn tag_tree_laws()
     ensures read { (bytes : List ℕ) (t at end : ℕ) (tree : Tree) (found : FoundTree) (p : BitPlace) (bits : List Bool)
         → AreSameTrees tree found → HasLeaf tree at → IsAhead bytes p (leaf_bits t tree at ++ bits) end
         → LeafIsRead bytes t at tree found p bits end }
+    // The bits are the same for all thresholds above the leaf's value.
+    ensures above { (t t' at : ℕ) (tree : Tree) (found : FoundTree) → AreSameTrees tree found → HasLeaf tree at
+        → (leaf_of tree at).value < t → (leaf_of tree at).value < t'
+        → (leaf_bits t tree at ≡ leaf_bits t' tree at) × (leaf_told t tree at ≡ leaf_told t' tree at) }
     ensures kept { (t at other : ℕ) (tree : Tree) → HasLeaf tree at → HasLeaf tree other
         → HasLeaf (leaf_told t tree at) other }
     ensures told { (t at : ℕ) (tree : Tree) → HasLeaf tree at
