@@ -1,7 +1,7 @@
 -- A reader finds each code-block of a sub-band where the writer put it.
-use Rattle.std.proofs.Common.{◌≡◌, ℕ, zero, suc, ◌+◌, ◌*◌, ◌-◌, ◌/◌, ◌%◌, ◌<◌, ◌≤◌, ◌⊎◌, refl, sym, ap, ap₂, subst, ◌∙◌, arith, Bool, true, false, cond, List, [], ◌∷◌, length, map, get_or, All, ℤ, Option, Some, None, find, zip, sum_by, inl, inr}
+use Rattle.std.proofs.Common.{◌≡◌, ℕ, ◌+◌, ◌*◌, ◌/◌, ◌%◌, ◌<◌, ◌≤◌, ◌⊎◌, refl, sym, ap, ap₂, subst, ◌∙◌, arith, Bool, true, false, cond, List, [], ◌∷◌, length, map, get_or, All, ℤ, Some, find, zip, sum_by, inl, inr}
 use Rattle.std.specs.Prelude.{◌==◌, ◌&&◌, if◌then◌else◌, nat_lt}
-use Rattle.std.specs.List.{range_with_len, list_all, AllByRecursion}
+use Rattle.std.specs.List.{range_with_len, AllByRecursion}
 use Rattle.std.proofs.lemmas.Bool.{cases_Bool, eqb-true, eq-eqb, and_parts, and_from, ltb-true, false≢true, cond-true, cond-false}
 use Rattle.std.proofs.lemmas.Nat.{div-mul-add, mod-mul-add, mul-add-lt}
 use Rattle.std.proofs.lemmas.List.{get_or-map}
@@ -10,14 +10,13 @@ use Rattle.std.proofs.lemmas.List.FromFn.{length-map-range_with_len, get_or-map-
 use Rattle.std.proofs.lemmas.List.Elements.{All-nil, All-cons, All-weaker, All-from_recursion}
 use Rattle.codec_terms.specs.declared.picture.Shape.{Shape}
 use Rattle.codec_terms.specs.declared.picture.Band.{Band}
-use Rattle.codec_terms.specs.declared.packet.PacketBlock.{PacketBlock}
 use Rattle.codec_terms.specs.declared.packet.PacketBand.{PacketBand}
-use Rattle.codec_terms.specs.Bands.{all_bands, component_bands, resolution_bands, band_place, band_values, lowest_plane}
-use Rattle.codec_terms.specs.Precincts.{Precinct, precinct_at, precinct_columns, precinct_rows, resolution, resolution_precincts, all_precincts, packet_order, group_length, block_columns, block_rows, blocks_at, blocks_in, BlockArea, HasPrecincts}
+use Rattle.codec_terms.specs.Bands.{all_bands, component_bands, resolution_bands, band_values, lowest_plane}
+use Rattle.codec_terms.specs.Precincts.{Precinct, precinct_at, precinct_columns, precinct_rows, resolution, resolution_precincts, all_precincts, packet_order, group_length, block_columns, block_rows, blocks_at, blocks_in, BlockArea}
 use Rattle.codec_terms.specs.Codestream.{block_of, packet_block, packet_band, not_included}
 use Rattle.codec_terms.specs.StreamReading.{is_precinct, no_band, place_in_packet, band_in, packet_band_of, block_in, read_block}
 use Rattle.codec_terms.proofs.OrderLaws.{sum_by-packet_order}
-use Rattle.codec_laws.specs.Places.{IsInArea, OnePrecinct, bands_of_packet, packets_of}
+use Rattle.codec_laws.specs.Places.{bands_of_packet, packets_of}
 use Rattle.codec_laws.proofs.Lists.{All-pieces, All-range}
 use Rattle.codec_laws.proofs.BlockPlaces.{all_have_precincts, get_or-packet_band}
 
@@ -94,10 +93,10 @@ found_or_none r number f (p ∷ ps) = elim (cases_Bool (is_one r number p)) [
   | inl here ↦ inl (record { precinct = p; is = here; found = cond-true (is_one r number p) (Some (p, f p)) (find (is_precinct r number) (zip ps (map f ps))) here })
   | inr other ↦ elim (found_or_none r number f ps) [
     | inl later ↦ inl (record {
-        precinct = later.precinct;
-        is = later.is;
-        found = cond-false (is_one r number p) (Some (p, f p)) (find (is_precinct r number) (zip ps (map f ps))) other ∙ later.found;
-      })
+      precinct = later.precinct;
+      is = later.is;
+      found = cond-false (is_one r number p) (Some (p, f p)) (find (is_precinct r number) (zip ps (map f ps))) other ∙ later.found;
+    })
     | inr none ↦ inr (All-cons (λ p. is_one r number p ≡ false) p ps other none)
   ]
 ]

@@ -1,5 +1,5 @@
 -- The bits that tell of a tag tree's leaf are read back.
-use Rattle.std.proofs.Common.{◌≡◌, ◌≢◌, ℕ, zero, suc, ◌+◌, ◌*◌, ◌-◌, ◌/◌, ◌%◌, ◌^◌, ◌<◌, ◌≤◌, ◌⊎◌, refl, sym, ap, subst, subst₂, ◌∙◌, arith, Bool, true, false, min, max, List, [], ◌∷◌, ◌++◌, length, get_or, set, replicate, Ok, Err, Result, Some, append_assoc, append-nil, inl, inr, ap₂}
+use Rattle.std.proofs.Common.{◌≡◌, ◌≢◌, ℕ, zero, suc, ◌+◌, ◌*◌, ◌-◌, ◌/◌, ◌%◌, ◌^◌, ◌<◌, ◌≤◌, ◌⊎◌, refl, sym, ap, subst, subst₂, ◌∙◌, arith, Bool, true, false, min, max, List, [], ◌∷◌, ◌++◌, length, get_or, set, replicate, Ok, Err, Result, Some, append_assoc, append-nil, inl, inr, ap₂, div-add-mod'}
 use Rattle.std.specs.Prelude.{if◌then◌else◌, nat_lt, ⊤}
 use Rattle.std.proofs.lemmas.Bool.{cond_both, cases_Bool, cases_lt, cases_eq, lt-ltb, le-ltb, false≢true, or_left, or_right, or_from}
 use Rattle.std.proofs.lemmas.Nat.{shr-shr}
@@ -723,3 +723,22 @@ pub leaf_bits-alike : (t t' at : ℕ) (tree : Tree) (found : FoundTree) → AreS
 leaf_bits-alike t t' at tree found same leaf below below' =
     let alike = path_alike tree.levels found.levels (λ x y. ⊤) (λ x y. 0) (λ x y. 0) t t' 0 (at % tree.columns) (at / tree.columns) same.levels leaf.path below below' in
     (alike.bits, ap (λ (levels : List (List (List Node))). let told : Tree = record tree { levels = levels } in told) alike.told)
+
+-- ---- the other leaves
+
+last_other : (t low x y u v : ℕ) (levels : List (List (List Node))) → HasPath x y levels → AreApart x y u v → last_node (path_told t low x y levels) u v ≡ last_node levels u v
+unfolding path_told
+last_other t low x y u v [] path apart = refl
+last_other t low x y u v (leaves ∷ []) path apart =
+    item_other no_node leaves (x / 2 ^ 0) (y / 2 ^ 0) (node_told t low (node_above leaves 0 x y)) (u / 2 ^ 0) (v / 2 ^ 0) path.0.row
+    (λ row column. apart (let same : v ≡ y = omega arith in same) (let same : u ≡ x = omega arith in same))
+last_other t low x y u v (level ∷ next ∷ below) path apart =
+    last_other t (node_told t low (node_above level (suc (length below)) x y)).reached x y u v (next ∷ below) path.1 apart
+
+pub leaf_of-other : (t at other : ℕ) (tree : Tree) → HasLeaf tree at → other ≢ at → leaf_of (leaf_told t tree at) other ≡ leaf_of tree other
+leaf_of-other t at other tree leaf different =
+    last_other t 0 (at % tree.columns) (at / tree.columns) (other % tree.columns) (other / tree.columns) tree.levels leaf.path
+    (λ row column. different (same_number at other tree.columns row column))
+  where
+    same_number : (m n c : ℕ) → n / c ≡ m / c → n % c ≡ m % c → n ≡ m
+    same_number m n c row column = sym (div-add-mod' n c) ∙ (ap₂ (λ (a b : ℕ). a * c + b) row column ∙ div-add-mod' m c)

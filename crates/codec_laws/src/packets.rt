@@ -1,4 +1,4 @@
-ghost use Rattle.std.specs.Prelude.{◌≡◌, ◌<◌, ◌≤◌, ◌+◌, ◌*◌, ◌^◌, ℕ, ℤ, Bool, false, List, [], ◌∷◌, ◌++◌, All, length, slice_index, slice_index_or, Ok};
+ghost use Rattle.std.specs.Prelude.{◌≡◌, ◌≢◌, ◌<◌, ◌≤◌, ◌+◌, ◌*◌, ◌^◌, ℕ, ℤ, Bool, false, List, [], ◌∷◌, ◌++◌, All, length, slice_index, slice_index_or, Ok};
 ghost use Rattle.std.specs.List.{flat_map};
 ghost use Rattle.codec_terms.specs.declared.picture.Shape.{Shape};
 ghost use Rattle.codec_terms.specs.declared.picture.Band.{Band};
@@ -98,6 +98,8 @@ pub fn tag_tree_laws()
         → HasLeaf (leaf_told t tree at) other }
     ensures told { (t at : ℕ) (tree : Tree) → HasLeaf tree at
         → IsTold t (leaf_of tree at) (leaf_of (leaf_told t tree at) at) }
+    ensures others { (t at other : ℕ) (tree : Tree) → HasLeaf tree at → other ≢ at
+        → leaf_of (leaf_told t tree at) other ≡ leaf_of tree other }
     ensures known { (at : ℕ) (tree : Tree) (found : FoundTree) → AreSameTrees tree found → HasLeaf tree at
         → leaf_value found at ≡ known_value (leaf_of tree at) }
 {}

@@ -1,5 +1,5 @@
 -- The laws of tag trees.
-use Rattle.codec_laws.proofs.TagTrees.{leaf_read-is, leaf_bits-alike, HasLeaf-leaf_told, leaf_of-leaf_told, leaf_value-is}
+use Rattle.codec_laws.proofs.TagTrees.{leaf_read-is, leaf_bits-alike, HasLeaf-leaf_told, leaf_of-leaf_told, leaf_of-other, leaf_value-is}
 use Rattle.codec_laws.proofs.TreeLevels.{AreSameTrees-new, HasLeaf-new, leaf_of-new}
 use Rattle.codec_laws.proofs.packets.tag_tree_laws.Goals as goal
 
@@ -26,3 +26,6 @@ returns-clause-known c = leaf_value-is
 
 pub returns-clause-above : goal.returns-clause-above
 returns-clause-above c = leaf_bits-alike
+
+pub returns-clause-others : goal.returns-clause-others
+returns-clause-others c = leaf_of-other
