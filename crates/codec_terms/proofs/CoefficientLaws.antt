@@ -14,11 +14,11 @@ use Rattle.codec_terms.proofs.BandLaws.{sum_by-component_bands}
 use Rattle.codec_terms.proofs.QuantiserLaws.{kept-cut_zero}
 
 -- each of these sub-bands has the place that it has here, from n on
-AreAtPlaces : ℕ → List Band → Type 0
+unfoldable pub AreAtPlaces : ℕ → List Band → Type 0
 AreAtPlaces n [] = Unit {0}
 AreAtPlaces n (band ∷ bands) = (band_place band ≡ n) × AreAtPlaces (suc n) bands
 
-all_at_places : AreAtPlaces 0 all_bands
+pub all_at_places : AreAtPlaces 0 all_bands
 unfolding AreAtPlaces all_bands component_bands resolution_bands
 all_at_places = (refl, (refl, (refl, (refl, (refl, (refl, (refl, (refl, (refl, (refl, (refl, (refl, (refl, (refl, (refl, (refl, (refl, (refl, (refl, (refl, (refl, (refl, (refl, (refl, (refl, (refl, (refl, (refl, (refl, (refl, (refl, (refl, (refl, (refl, (refl, (refl, (refl, (refl, (refl, (refl, (refl, (refl, (refl, (refl, (refl, (refl, (refl, (refl, tt))))))))))))))))))))))))))))))))))))))))))))))))
 
@@ -45,7 +45,7 @@ three_components = refl
 three_sums : (a b c d e t s : ℕ) → t ≡ a + d → d ≡ b + e → e ≡ c + 0 → a ≡ s → b ≡ s → c ≡ s → t ≡ 3 * s
 three_sums a b c d e t s p q r u v w = omega arith
 
-sum_by-all_bands : (shape : Shape) → sum_by (band_length shape) all_bands ≡ 3 * (shape.width * shape.height)
+pub sum_by-all_bands : (shape : Shape) → sum_by (band_length shape) all_bands ≡ 3 * (shape.width * shape.height)
 sum_by-all_bands shape =
     three_sums _ _ _ _ _ _ _
     (ap (sum_by (band_length shape)) three_components ∙ sum_by-append (band_length shape) (component_bands 0) (component_bands 1 ++ (component_bands 2 ++ [])))

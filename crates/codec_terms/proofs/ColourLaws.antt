@@ -48,7 +48,7 @@ fifth_powers_downward n a b less holds = let raised_power = pow-le-pow_left less
 pub fifth_root-greatest : (n : ℕ) → IsGreatest (has_fifth_power_within n) (2 ^ 25) (fifth_root n)
 fifth_root-greatest n = greatest_from-is (has_fifth_power_within n) 25 0 (fifth_powers_downward n) (le-leb 0 n (omega arith))
 
-fifth_root-mono : (m n : ℕ) → m ≤ n → fifth_root m ≤ fifth_root n
+pub fifth_root-mono : (m n : ℕ) → m ≤ n → fifth_root m ≤ fifth_root n
 fifth_root-mono m n less =
     let of_m = fifth_root-greatest m in
     let within = leb-true (fifth_root m ^ 5) m of_m.holds in
@@ -58,7 +58,7 @@ fifth_root-mono m n less =
 product_within : (a b c d : ℕ) → a ≤ b → c ≤ d → a * c ≤ b * d
 product_within a b c d h k = grind arith
 
-fifths-mono : (p g h : ℕ) → g ≤ h → fifths p g ≤ fifths p h
+pub fifths-mono : (p g h : ℕ) → g ≤ h → fifths p g ≤ fifths p h
 fifths-mono p g h less =
     quotient_at (2 ^ 24) (pow_pos 24)
     (product_within _ _ _ _
@@ -68,7 +68,7 @@ fifths-mono p g h less =
     quotient_at : {a b : ℕ} (m : ℕ) → 0 < m → a ≤ b → a / m ≤ b / m
     quotient_at {a} {b} m positive k = le-div (a / m) b m positive (let down = div-mul-le_self a m in omega arith)
 
-codes_downward : (v : ℕ) → IsDownward (is_code_within v)
+pub codes_downward : (v : ℕ) → IsDownward (is_code_within v)
 codes_downward v a b less holds =
     let at = leb-true _ _ holds in
     let power = fifths-mono 13 (a * 2 ^ 24 / 4095) (b * 2 ^ 24 / 4095) (omega arith) in

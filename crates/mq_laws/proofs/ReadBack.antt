@@ -544,7 +544,7 @@ zipped (b ∷ bs) =
     (λ _. (3, onto-filled (b ∷ bs) 3 ∙ onto-three (b ∷ bs))) in
     record { m = x.0; whole = x.1 }
 
-clean-dropped : (final : List ℕ) → Clean final → Clean (without_last_ff final)
+pub clean-dropped : (final : List ℕ) → Clean final → Clean (without_last_ff final)
 unfolding without_last_ff
 clean-dropped [] h = h
 clean-dropped (b ∷ bs) h =

@@ -1,0 +1,6 @@
+pub mod BitsAhead
+pub mod Bounds
+pub mod Codewords
+pub mod Contexts
+pub mod Places
+pub mod TreeReading
