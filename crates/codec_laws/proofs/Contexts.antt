@@ -7,7 +7,7 @@ use Rattle.std.proofs.lemmas.List.Elements.{All-nil, All-append, All-push}
 use Rattle.codec_terms.specs.declared.picture.BandKind.{BandKind}
 use Rattle.codec_terms.specs.declared.picture.BandKind.TheVariants.{LL, HL, LH, HH}
 use Rattle.codec_terms.specs.Contexts.{zero_context_low, zero_context_high, zero_context, zero_context_at, horizontal, vertical, diagonal, horizontal_sign, vertical_sign, sign_context, sign_context_at, refine_context, refine_context_at, Column, scan}
-use Rattle.codec_terms.specs.BlockDecisions.{Block, Walk, negatives, plane_bit, zero_context_of, is_reached, is_refined, is_first, is_left, is_run, with_decision, sign_told, bit_told, propagated, refined, cleaned, run_end, column_propagated, column_refined, column_cleaned, propagation, refinement, cleanup, plane_start, first_plane_decisions, plane_decisions, planes_down_to, decisions_of, decisions, plane_count}
+use Rattle.codec_terms.specs.BlockDecisions.{Block, Walk, negatives, plane_bit, zero_context_of, is_reached, is_refined, is_first, is_left, is_run, with_decision, sign_told, bit_told, propagated, refined, cleaned, run_end, column_propagated, column_refined, column_cleaned, propagation, refinement, cleanup, plane_start, first_plane_decisions, plane_decisions, planes_down_to, decisions_of, decisions, plane_count, visited_at, run_told}
 use Rattle.codec_laws.specs.Contexts.{IsContext, InSign, InRefinement}
 use Rattle.codec_laws.proofs.Lists.{fold_keeps, All-flat_map, All-each}
 
@@ -64,43 +64,50 @@ InContexts : Walk → Type 0
 InContexts w = All IsContext w.decisions
 
 with_decision-in : (context : ℕ) (bit : Bool) (w : Walk) → context < 19 → InContexts w → InContexts (with_decision context bit w)
-unfolding InContexts
+unfolding InContexts with_decision
 with_decision-in context bit w small each = All-push IsContext w.decisions (record { context = context; bit = bit }) each small
 
 zero_context_at-below : (kind : BandKind) (width : ℕ) (set : List Bool) (x y : ℕ) → zero_context_at kind width set x y < 19
+unfolding zero_context_at
 zero_context_at-below kind width set x y =
     omega (arith, zero_context-below kind (horizontal width set x y) (vertical width set x y) (diagonal width set x y))
 
 sign_context_at-below : (width : ℕ) (set negative : List Bool) (x y : ℕ) → (sign_context_at width set negative x y).context < 19
+unfolding sign_context_at
 sign_context_at-below width set negative x y =
     omega (arith, sign_context-within (horizontal_sign width set negative x y) (vertical_sign width set negative x y))
 
 refine_context_at-below : (width : ℕ) (set : List Bool) (first : Bool) (x y : ℕ) → refine_context_at width set first x y < 19
+unfolding refine_context_at
 refine_context_at-below width set first x y =
     omega (arith, refine_context-within first (horizontal width set x y + vertical width set x y + diagonal width set x y))
 
 sign_told-in : (b : Block) (x y : ℕ) (w : Walk) → InContexts w → InContexts (sign_told b x y w)
-unfolding InContexts
+unfolding InContexts sign_told with_decision
 sign_told-in b x y w each = with_decision-in _ _ w (sign_context_at-below b.width w.significant (negatives b) x y) each
 
 bit_told-in : (b : Block) (p x y : ℕ) (w : Walk) → InContexts w → InContexts (bit_told b p x y w)
+unfolding bit_told zero_context_of
 bit_told-in b p x y w each =
     let told = with_decision-in (zero_context_of b w x y) (plane_bit b p x y) w (zero_context_at-below b.kind b.width w.significant x y) each in
     cond_both (plane_bit b p x y) _ _ InContexts (λ e. sign_told-in b x y _ told) (λ e. told)
 
 propagated-in : (b : Block) (p x : ℕ) (w : Walk) (y : ℕ) → InContexts w → InContexts (propagated b p x w y)
-unfolding InContexts
+unfolding InContexts propagated visited_at
 propagated-in b p x w y each = cond_both (is_reached b w x y) _ _ InContexts (λ e. bit_told-in b p x y w each) (λ e. each)
 
 refined-in : (b : Block) (p x : ℕ) (w : Walk) (y : ℕ) → InContexts w → InContexts (refined b p x w y)
+unfolding refined
 refined-in b p x w y each =
     cond_both (is_refined b w x y) _ _ InContexts
     (λ e. with_decision-in _ _ w (refine_context_at-below b.width w.significant (is_first b p x y) x y) each) (λ e. each)
 
 cleaned-in : (b : Block) (p x : ℕ) (w : Walk) (y : ℕ) → InContexts w → InContexts (cleaned b p x w y)
+unfolding cleaned
 cleaned-in b p x w y each = cond_both (is_left b w x y) _ _ InContexts (λ e. bit_told-in b p x y w each) (λ e. each)
 
 run_end-in : (b : Block) (p : ℕ) (column : Column) (w : Walk) (r : Option ℕ) → InContexts w → InContexts (run_end b p column w r)
+unfolding run_end
 run_end-in b p column w None each = with_decision-in 17 false w (omega arith) each
 run_end-in b p column w (Some r) each =
     fold_keeps InContexts (cleaned b p column.x) (cleaned-in b p column.x) _ (drop (suc r) column.rows)
@@ -110,15 +117,18 @@ run_end-in b p column w (Some r) each =
     (with_decision-in 17 true w (omega arith) each))))
 
 column_cleaned-in : (b : Block) (p : ℕ) (w : Walk) (column : Column) → InContexts w → InContexts (column_cleaned b p w column)
+unfolding column_cleaned run_told
 column_cleaned-in b p w column each =
     cond_both (is_run b w column) _ _ InContexts
     (λ e. run_end-in b p column w (position (plane_bit b p column.x) column.rows) each)
     (λ e. fold_keeps InContexts (cleaned b p column.x) (cleaned-in b p column.x) w column.rows each)
 
 column_propagated-in : (b : Block) (p : ℕ) (w : Walk) (column : Column) → InContexts w → InContexts (column_propagated b p w column)
+unfolding column_propagated
 column_propagated-in b p w column each = fold_keeps InContexts (propagated b p column.x) (propagated-in b p column.x) w column.rows each
 
 column_refined-in : (b : Block) (p : ℕ) (w : Walk) (column : Column) → InContexts w → InContexts (column_refined b p w column)
+unfolding column_refined
 column_refined-in b p w column each = fold_keeps InContexts (refined b p column.x) (refined-in b p column.x) w column.rows each
 
 -- ---- passes and planes

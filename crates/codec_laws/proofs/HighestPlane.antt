@@ -9,7 +9,7 @@ use Rattle.std.proofs.lemmas.List.Folds.{fold_stays}
 use Rattle.std.proofs.lemmas.List.Elements.{All-nil, All-cons, All-map}
 use Rattle.codec_terms.specs.declared.picture.BandKind.{BandKind}
 use Rattle.codec_terms.specs.declared.picture.BandKind.TheVariants.{LL, HL, LH, HH}
-use Rattle.codec_terms.specs.Contexts.{is_in, horizontal, vertical, diagonal, zero_context, zero_context_at, scan}
+use Rattle.codec_terms.specs.Contexts.{is_in, horizontal, vertical, diagonal, zero_context, zero_context_at, scan, contains}
 use Rattle.codec_terms.specs.BlockDecisions.{Block, Walk, is_significant, is_visited, zero_context_of, bit_told, is_reached, visited_at, propagated, is_refined, refined, column_propagated, column_refined, propagation, refinement, cleanup, is_significant_above, plane_start, first_plane_decisions, plane_decisions, plane_count}
 use Rattle.codec_laws.proofs.Planes.{greatest-below, within-bit_length}
 
@@ -37,6 +37,7 @@ zero_context-none : (kind : BandKind) (h v d : ℕ) → h ≡ 0 → v ≡ 0 → 
 zero_context-none kind h v d p q r = rw (p, q, r) (zero_context-zero kind)
 
 zero_context_at-empty : (kind : BandKind) (width : ℕ) (samples : List Bool) (x y : ℕ) → IsEmpty samples → zero_context_at kind width samples x y ≡ 0
+unfolding zero_context_at horizontal vertical diagonal
 zero_context_at-empty kind width samples x y none =
     zero_context-none kind (horizontal width samples x y) (vertical width samples x y) (diagonal width samples x y)
     (none_of_two _ _ (out x (suc y)) (out (suc (suc x)) (suc y)))
@@ -51,21 +52,23 @@ zero_context_at-empty kind width samples x y none =
 
 module _ (b : Block) (p : ℕ) (w : Walk) (none : IsEmpty w.significant) where
   propagated-nothing : (x y : ℕ) → propagated b p x w y ≡ w
+  unfolding propagated is_reached zero_context_of
   propagated-nothing x y =
       cond-false (is_reached b w x y) (visited_at b x y (bit_told b p x y w)) w
       (and_right (not (is_significant b w x y)) (not (zero_context_of b w x y == 0)) (ap (λ n. not (n == 0)) (zero_context_at-empty b.kind b.width w.significant x y none)))
 
   refined-nothing : (x y : ℕ) → refined b p x w y ≡ w
+  unfolding refined is_refined is_significant contains
   refined-nothing x y =
       cond-false (is_refined b w x y) _ w (and_left (is_significant b w x y) (not (is_visited b w x y)) (is_in-empty b.width w.significant (suc x) (suc y) none))
 
   propagation-nothing : propagation b p w ≡ w
-  unfolding propagation
+  unfolding propagation column_propagated
   propagation-nothing =
       fold_stays (column_propagated b p) w (λ column. fold_stays (propagated b p column.x) w (propagated-nothing column.x) column.rows) (scan b.width b.height)
 
   refinement-nothing : refinement b p w ≡ w
-  unfolding refinement
+  unfolding refinement column_refined
   refinement-nothing =
       fold_stays (column_refined b p) w (λ column. fold_stays (refined b p column.x) w (refined-nothing column.x) column.rows) (scan b.width b.height)
 
@@ -88,6 +91,7 @@ values_below b k small few i inside =
     omega (arith, greatest, one, is)
 
 start-empty : (b : Block) (p : ℕ) → All (λ v. unsigned_abs v < 2 ^ 64) b.values → plane_count b ≤ suc p → IsEmpty (plane_start b p).significant
+unfolding is_significant_above
 start-empty b p small few i = elim (cases_lt i (length b.values)) [
   | inl inside ↦ get_or-map (is_significant_above p) b.values i (pos 0) false inside ∙ lt-leb (2 ^ suc p) (unsigned_abs (get_or b.values i (pos 0))) (values_below b (suc p) small few i inside)
   | inr past ↦ get_or_past (map (is_significant_above p) b.values) i false (rw (length-map b.values (is_significant_above p)) past)

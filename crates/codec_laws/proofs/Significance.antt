@@ -10,8 +10,8 @@ use Rattle.std.proofs.lemmas.List.{length-map, length-set, get_or-map, get_or-se
 use Rattle.std.proofs.lemmas.List.Sums.{AllPass-from_list_all, fails_before_first}
 use Rattle.std.proofs.lemmas.List.Quantifiers.{position-Some}
 use Rattle.std.proofs.lemmas.List.Elements.{All-nil, All-cons, All-head, All-tail, All-map, All-weaker, All-drop, All-from_get_or}
-use Rattle.codec_terms.specs.Contexts.{is_in, contains, Column, in_fours, stripe_columns, scan}
-use Rattle.codec_terms.specs.BlockDecisions.{Block, Walk, magnitude_at, plane_bit, with_decision, is_significant, is_visited, zero_context_of, sign_told, bit_told, is_reached, visited_at, propagated, is_refined, refined, is_left, cleaned, may_run, is_run, run_end, run_told, column_propagated, column_refined, column_cleaned, propagation, refinement, cleanup, is_significant_above, plane_start}
+use Rattle.codec_terms.specs.Contexts.{is_in, contains, Column, in_fours, stripe_columns, scan, with_sample}
+use Rattle.codec_terms.specs.BlockDecisions.{Block, Walk, magnitude_at, plane_bit, with_decision, is_significant, is_visited, zero_context_of, sign_told, bit_told, is_reached, visited_at, propagated, is_refined, refined, is_left, cleaned, may_run, is_run, run_end, run_told, column_propagated, column_refined, column_cleaned, propagation, refinement, cleanup, is_significant_above, plane_start, value_at}
 use Rattle.codec_laws.proofs.Lists.{fold_keeps, fold_keeps_within, fold_reaches, All-flat_map, All-pieces, All-range, All-from_range}
 
 -- ---- the scan has each sample
@@ -129,7 +129,7 @@ not_both : (t : Bool) → t ≡ true → t ≡ false → ⊥
 not_both t p q = false≢true (sym q ∙ p)
 
 contains-inside : (width : ℕ) (samples : List Bool) (x y : ℕ) → x < width → contains width samples x y ≡ get_or samples (y * width + x) false
-unfolding is_in
+unfolding is_in contains
 contains-inside width samples x y wide = rw (lt-ltb x width wide) refl
 
 set_grows : (samples : List Bool) (i : ℕ) → Grows samples (set samples i true)
@@ -163,9 +163,11 @@ module _ (b : Block) (p : ℕ) (whole : length b.values ≡ b.width * b.height) 
   place x y wide high = rw whole (in_block b.width b.height x y wide high)
 
   plane_bit-true : (x y : ℕ) → plane_bit b p x y ≡ true → 2 ^ p ≤ magnitude b (y * b.width + x)
+  unfolding plane_bit magnitude_at value_at
   plane_bit-true x y e = bit_from (magnitude_at b x y) p (eqb-true (magnitude_at b x y / 2 ^ p % 2) 1 e)
 
   plane_bit-false : (x y : ℕ) → magnitude b (y * b.width + x) < 2 ^ suc p → plane_bit b p x y ≡ false → magnitude b (y * b.width + x) < 2 ^ p
+  unfolding plane_bit magnitude_at value_at
   plane_bit-false x y small e = no_bit (magnitude_at b x y) p small (λ q. eqb-false (magnitude_at b x y / 2 ^ p % 2) 1 e q)
 
   -- a sample that isn't significant has no bit above p
@@ -176,6 +178,7 @@ module _ (b : Block) (p : ℕ) (whole : length b.values ≡ b.width * b.height) 
   ]
 
   sign_told-sound : (w : Walk) (x y : ℕ) → x < b.width → y < b.height → plane_bit b p x y ≡ true → Sound w → Sound (sign_told b x y w)
+  unfolding sign_told with_decision with_sample
   sign_told-sound w x y wide high bit s =
       let here = y * b.width + x in
       let grows = set_grows w.significant here in
@@ -190,22 +193,27 @@ module _ (b : Block) (p : ℕ) (whole : length b.values ≡ b.width * b.height) 
       }
 
   sign_told-grows : (w : Walk) (x y : ℕ) → Grows w.significant (sign_told b x y w).significant
+  unfolding sign_told with_sample
   sign_told-grows w x y = set_grows w.significant (y * b.width + x)
 
   sign_told-done : (w : Walk) (x y : ℕ) → x < b.width → y < b.height → Sound w → IsDone b p (sign_told b x y w).significant (y * b.width + x)
+  unfolding sign_told with_sample
   sign_told-done w x y wide high s from = get_or-set_same w.significant (y * b.width + x) true false (rw s.size (place x y wide high))
 
   bit_told-sound : (w : Walk) (x y : ℕ) → x < b.width → y < b.height → Sound w → Sound (bit_told b p x y w)
+  unfolding bit_told with_decision
   bit_told-sound w x y wide high s =
       let told : Walk = with_decision (zero_context_of b w x y) (plane_bit b p x y) w in
       cond_both (plane_bit b p x y) (sign_told b x y told) told Sound (λ e. sign_told-sound told x y wide high e s) (λ e. s)
 
   bit_told-grows : (w : Walk) (x y : ℕ) → Grows w.significant (bit_told b p x y w).significant
+  unfolding bit_told with_decision
   bit_told-grows w x y =
       let told : Walk = with_decision (zero_context_of b w x y) (plane_bit b p x y) w in
       cond_both (plane_bit b p x y) (sign_told b x y told) told (λ v. Grows w.significant v.significant) (λ e. sign_told-grows told x y) (λ e i h. h)
 
   bit_told-done : (w : Walk) (x y : ℕ) → x < b.width → y < b.height → Sound w → get_or w.significant (y * b.width + x) false ≡ false → IsDone b p (bit_told b p x y w).significant (y * b.width + x)
+  unfolding bit_told with_decision
   bit_told-done w x y wide high s left =
       let told : Walk = with_decision (zero_context_of b w x y) (plane_bit b p x y) w in
       cond_both (plane_bit b p x y) (sign_told b x y told) told (λ v. IsDone b p v.significant (y * b.width + x))
@@ -215,6 +223,7 @@ module _ (b : Block) (p : ℕ) (whole : length b.values ≡ b.width * b.height) 
   -- ---- propagation: the samples that it visits are told
 
   propagated-sound : (w : Walk) (x y : ℕ) → x < b.width → y < b.height → Sound w → Sound (propagated b p x w y)
+  unfolding propagated visited_at is_reached is_significant with_sample
   propagated-sound w x y wide high s =
       cond_both (is_reached b w x y) (visited_at b x y (bit_told b p x y w)) w Sound
       (λ e. visited_sound e) (λ e. s)
@@ -239,6 +248,7 @@ module _ (b : Block) (p : ℕ) (whole : length b.values ≡ b.width * b.height) 
           }
 
   column_propagated-sound : (w : Walk) (column : Column) → IsWithin b.width b.height column → Sound w → Sound (column_propagated b p w column)
+  unfolding column_propagated
   column_propagated-sound w column within s =
       fold_keeps_within Sound (λ y. y < b.height) (propagated b p column.x) (λ w y high s. propagated-sound w column.x y within.wide high s) w column.rows within.high s
 
@@ -250,9 +260,11 @@ module _ (b : Block) (p : ℕ) (whole : length b.values ≡ b.width * b.height) 
   -- ---- refinement changes no set
 
   refined-sound : (w : Walk) (x y : ℕ) → Sound w → Sound (refined b p x w y)
+  unfolding refined with_decision
   refined-sound w x y s = cond_both (is_refined b w x y) _ w Sound (λ e. s) (λ e. s)
 
   column_refined-sound : (w : Walk) (column : Column) → Sound w → Sound (column_refined b p w column)
+  unfolding column_refined
   column_refined-sound w column s = fold_keeps Sound (refined b p column.x) (λ w y s. refined-sound w column.x y s) w column.rows s
 
   refinement-sound : (w : Walk) → Sound w → Sound (refinement b p w)
@@ -262,22 +274,27 @@ module _ (b : Block) (p : ℕ) (whole : length b.values ≡ b.width * b.height) 
   -- ---- cleanup: each sample that isn't significant was visited, or is told
 
   cleaned-sound : (w : Walk) (x y : ℕ) → x < b.width → y < b.height → Sound w → Sound (cleaned b p x w y)
+  unfolding cleaned
   cleaned-sound w x y wide high s = cond_both (is_left b w x y) (bit_told b p x y w) w Sound (λ e. bit_told-sound w x y wide high s) (λ e. s)
 
   cleaned-grows : (w : Walk) (x y : ℕ) → Grows w.significant (cleaned b p x w y).significant
+  unfolding cleaned
   cleaned-grows w x y = cond_both (is_left b w x y) (bit_told b p x y w) w (λ v. Grows w.significant v.significant) (λ e. bit_told-grows w x y) (λ e i h. h)
 
   left_out : (w : Walk) (x y : ℕ) → x < b.width → is_left b w x y ≡ true → get_or w.significant (y * b.width + x) false ≡ false
+  unfolding is_left is_significant
   left_out w x y wide e =
       sym (contains-inside b.width w.significant x y wide) ∙ not-true (is_significant b w x y) (and_parts (not (is_significant b w x y)) (not (is_visited b w x y)) e).0
 
   passed_over : (w : Walk) (x y : ℕ) → x < b.width → y < b.height → Sound w → is_left b w x y ≡ false → IsDone b p w.significant (y * b.width + x)
+  unfolding is_left is_significant is_visited
   passed_over w x y wide high s e from = elim (and_cases (not (is_significant b w x y)) (not (is_visited b w x y)) e) [
     | inl already ↦ sym (contains-inside b.width w.significant x y wide) ∙ not-false (is_significant b w x y) already
     | inr visited ↦ s.told (y * b.width + x) (place x y wide high) (sym (contains-inside b.width w.visited x y wide) ∙ not-false (is_visited b w x y) visited) from
   ]
 
   cleaned-done : (w : Walk) (x y : ℕ) → x < b.width → y < b.height → Sound w → IsDone b p (cleaned b p x w y).significant (y * b.width + x)
+  unfolding cleaned
   cleaned-done w x y wide high s =
       cond_both (is_left b w x y) (bit_told b p x y w) w (λ v. IsDone b p v.significant (y * b.width + x))
       (λ e. bit_told-done w x y wide high s (left_out w x y wide e)) (λ e. passed_over w x y wide high s e)
@@ -300,6 +317,7 @@ module _ (b : Block) (p : ℕ) (whole : length b.values ≡ b.width * b.height) 
 
   -- a run's samples are all left, so one whose bit is 0 has none from p on
   run_left : (w : Walk) (column : Column) → is_run b w column ≡ true → All (λ y. is_left b w column.x y ≡ true) column.rows
+  unfolding is_run may_run
   run_left w column e =
       All-weaker (λ y. may_run b w column.x y ≡ true) (λ y. is_left b w column.x y ≡ true)
       (λ y h. (and_parts (is_left b w column.x y) (zero_context_of b w column.x y == 0) h).0) column.rows
@@ -314,6 +332,7 @@ module _ (b : Block) (p : ℕ) (whole : length b.values ≡ b.width * b.height) 
   before_sign w r = with_decision 18 (r % 2 == 1) (with_decision 18 (r / 2 == 1) (with_decision 17 true w))
 
   run_end-sound : (w : Walk) (column : Column) (r : Option ℕ) → IsWithin b.width b.height column → position (plane_bit b p column.x) column.rows ≡ r → Sound w → Sound (run_end b p column w r)
+  unfolding run_end with_decision
   run_end-sound w column None within e s = s
   run_end-sound w column (Some r) within e s =
       let found = position-Some (plane_bit b p column.x) column.rows r 0 e in
@@ -322,12 +341,14 @@ module _ (b : Block) (p : ℕ) (whole : length b.values ≡ b.width * b.height) 
       (sign_told-sound (before_sign w r) column.x (slice_index column.rows r) within.wide (within.high r 0 found.0) found.1 s)
 
   run_end-grows : (w : Walk) (column : Column) (r : Option ℕ) → Grows w.significant (run_end b p column w r).significant
+  unfolding run_end with_decision sign_told with_sample
   run_end-grows w column None i h = h
   run_end-grows w column (Some r) i h =
       rows_cleaned-grows column.x (drop (suc r) column.rows) (sign_told b column.x (slice_index column.rows r) (before_sign w r)) i (set_grows w.significant (slice_index column.rows r * b.width + column.x) i h)
 
   run_end-done : (w : Walk) (column : Column) (r : Option ℕ) → IsWithin b.width b.height column → is_run b w column ≡ true → position (plane_bit b p column.x) column.rows ≡ r → Sound w
       → (k : ℕ) → k < length column.rows → IsDone b p (run_end b p column w r).significant (get_or column.rows k 0 * b.width + column.x)
+  unfolding run_end with_decision sign_told
   run_end-done w column None within run e s k inside =
       zero_bit-done w w column.x (get_or column.rows k 0) within.wide (within.high k 0 inside) s (run_left w column run k 0 inside)
       (position-None (plane_bit b p column.x) column.rows e k 0 inside)
@@ -350,12 +371,14 @@ module _ (b : Block) (p : ℕ) (whole : length b.values ≡ b.width * b.height) 
       ]
 
   column_cleaned-sound : (w : Walk) (column : Column) → IsWithin b.width b.height column → Sound w → Sound (column_cleaned b p w column)
+  unfolding column_cleaned run_told
   column_cleaned-sound w column within s =
       cond_both (is_run b w column) (run_told b p w column) (fold (cleaned b p column.x) w column.rows) Sound
       (λ e. run_end-sound w column (position (plane_bit b p column.x) column.rows) within refl s)
       (λ e. rows_cleaned-sound column.x column.rows within.wide within.high w s)
 
   column_cleaned-grows : (w : Walk) (column : Column) → Grows w.significant (column_cleaned b p w column).significant
+  unfolding column_cleaned run_told
   column_cleaned-grows w column =
       cond_both (is_run b w column) (run_told b p w column) (fold (cleaned b p column.x) w column.rows) (λ v. Grows w.significant v.significant)
       (λ e. run_end-grows w column (position (plane_bit b p column.x) column.rows))
@@ -365,7 +388,7 @@ module _ (b : Block) (p : ℕ) (whole : length b.values ≡ b.width * b.height) 
   DoneColumn w column = All (λ y. IsDone b p w.significant (y * b.width + column.x)) column.rows
 
   column_cleaned-done : (w : Walk) (column : Column) → IsWithin b.width b.height column → Sound w → DoneColumn (column_cleaned b p w column) column
-  unfolding DoneColumn
+  unfolding DoneColumn column_cleaned run_told
   column_cleaned-done w column within s =
       cond_both (is_run b w column) (run_told b p w column) (fold (cleaned b p column.x) w column.rows)
       (λ v. All (λ y. IsDone b p v.significant (y * b.width + column.x)) column.rows)
@@ -389,6 +412,7 @@ module _ (b : Block) (p : ℕ) (whole : length b.values ≡ b.width * b.height) 
   -- ---- the whole plane
 
   above_at : (i : ℕ) → i < length b.values → get_or (map (is_significant_above p) b.values) i false ≡ nat_le (2 ^ suc p) (magnitude b i)
+  unfolding is_significant_above
   above_at i inside = get_or-map (is_significant_above p) b.values i (pos 0) false inside
 
   start-sound : Sound (plane_start b p)
