@@ -58,7 +58,7 @@ module _ (b : Block) (p : ℕ) (w : Walk) (none : IsEmpty w.significant) where
       (and_right (not (is_significant b w x y)) (not (zero_context_of b w x y == 0)) (ap (λ n. not (n == 0)) (zero_context_at-empty b.kind b.width w.significant x y none)))
 
   refined-nothing : (x y : ℕ) → refined b p x w y ≡ w
-  unfolding refined is_refined is_significant contains
+  unfolding refined is_refined
   refined-nothing x y =
       cond-false (is_refined b w x y) _ w (and_left (is_significant b w x y) (not (is_visited b w x y)) (is_in-empty b.width w.significant (suc x) (suc y) none))
 
@@ -91,7 +91,6 @@ values_below b k small few i inside =
     omega (arith, greatest, one, is)
 
 start-empty : (b : Block) (p : ℕ) → All (λ v. unsigned_abs v < 2 ^ 64) b.values → plane_count b ≤ suc p → IsEmpty (plane_start b p).significant
-unfolding is_significant_above
 start-empty b p small few i = elim (cases_lt i (length b.values)) [
   | inl inside ↦ get_or-map (is_significant_above p) b.values i (pos 0) false inside ∙ lt-leb (2 ^ suc p) (unsigned_abs (get_or b.values i (pos 0))) (values_below b (suc p) small few i inside)
   | inr past ↦ get_or_past (map (is_significant_above p) b.values) i false (rw (length-map b.values (is_significant_above p)) past)

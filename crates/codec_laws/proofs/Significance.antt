@@ -129,7 +129,7 @@ not_both : (t : Bool) → t ≡ true → t ≡ false → ⊥
 not_both t p q = false≢true (sym q ∙ p)
 
 contains-inside : (width : ℕ) (samples : List Bool) (x y : ℕ) → x < width → contains width samples x y ≡ get_or samples (y * width + x) false
-unfolding is_in contains
+unfolding is_in
 contains-inside width samples x y wide = rw (lt-ltb x width wide) refl
 
 set_grows : (samples : List Bool) (i : ℕ) → Grows samples (set samples i true)
@@ -163,11 +163,11 @@ module _ (b : Block) (p : ℕ) (whole : length b.values ≡ b.width * b.height) 
   place x y wide high = rw whole (in_block b.width b.height x y wide high)
 
   plane_bit-true : (x y : ℕ) → plane_bit b p x y ≡ true → 2 ^ p ≤ magnitude b (y * b.width + x)
-  unfolding plane_bit magnitude_at value_at
+  unfolding plane_bit
   plane_bit-true x y e = bit_from (magnitude_at b x y) p (eqb-true (magnitude_at b x y / 2 ^ p % 2) 1 e)
 
   plane_bit-false : (x y : ℕ) → magnitude b (y * b.width + x) < 2 ^ suc p → plane_bit b p x y ≡ false → magnitude b (y * b.width + x) < 2 ^ p
-  unfolding plane_bit magnitude_at value_at
+  unfolding plane_bit
   plane_bit-false x y small e = no_bit (magnitude_at b x y) p small (λ q. eqb-false (magnitude_at b x y / 2 ^ p % 2) 1 e q)
 
   -- a sample that isn't significant has no bit above p
@@ -178,7 +178,7 @@ module _ (b : Block) (p : ℕ) (whole : length b.values ≡ b.width * b.height) 
   ]
 
   sign_told-sound : (w : Walk) (x y : ℕ) → x < b.width → y < b.height → plane_bit b p x y ≡ true → Sound w → Sound (sign_told b x y w)
-  unfolding sign_told with_decision with_sample
+  unfolding sign_told with_decision
   sign_told-sound w x y wide high bit s =
       let here = y * b.width + x in
       let grows = set_grows w.significant here in
@@ -193,11 +193,11 @@ module _ (b : Block) (p : ℕ) (whole : length b.values ≡ b.width * b.height) 
       }
 
   sign_told-grows : (w : Walk) (x y : ℕ) → Grows w.significant (sign_told b x y w).significant
-  unfolding sign_told with_sample
+  unfolding sign_told
   sign_told-grows w x y = set_grows w.significant (y * b.width + x)
 
   sign_told-done : (w : Walk) (x y : ℕ) → x < b.width → y < b.height → Sound w → IsDone b p (sign_told b x y w).significant (y * b.width + x)
-  unfolding sign_told with_sample
+  unfolding sign_told
   sign_told-done w x y wide high s from = get_or-set_same w.significant (y * b.width + x) true false (rw s.size (place x y wide high))
 
   bit_told-sound : (w : Walk) (x y : ℕ) → x < b.width → y < b.height → Sound w → Sound (bit_told b p x y w)
@@ -223,7 +223,7 @@ module _ (b : Block) (p : ℕ) (whole : length b.values ≡ b.width * b.height) 
   -- ---- propagation: the samples that it visits are told
 
   propagated-sound : (w : Walk) (x y : ℕ) → x < b.width → y < b.height → Sound w → Sound (propagated b p x w y)
-  unfolding propagated visited_at is_reached is_significant with_sample
+  unfolding propagated visited_at is_reached
   propagated-sound w x y wide high s =
       cond_both (is_reached b w x y) (visited_at b x y (bit_told b p x y w)) w Sound
       (λ e. visited_sound e) (λ e. s)
@@ -282,12 +282,12 @@ module _ (b : Block) (p : ℕ) (whole : length b.values ≡ b.width * b.height) 
   cleaned-grows w x y = cond_both (is_left b w x y) (bit_told b p x y w) w (λ v. Grows w.significant v.significant) (λ e. bit_told-grows w x y) (λ e i h. h)
 
   left_out : (w : Walk) (x y : ℕ) → x < b.width → is_left b w x y ≡ true → get_or w.significant (y * b.width + x) false ≡ false
-  unfolding is_left is_significant
+  unfolding is_left
   left_out w x y wide e =
       sym (contains-inside b.width w.significant x y wide) ∙ not-true (is_significant b w x y) (and_parts (not (is_significant b w x y)) (not (is_visited b w x y)) e).0
 
   passed_over : (w : Walk) (x y : ℕ) → x < b.width → y < b.height → Sound w → is_left b w x y ≡ false → IsDone b p w.significant (y * b.width + x)
-  unfolding is_left is_significant is_visited
+  unfolding is_left
   passed_over w x y wide high s e from = elim (and_cases (not (is_significant b w x y)) (not (is_visited b w x y)) e) [
     | inl already ↦ sym (contains-inside b.width w.significant x y wide) ∙ not-false (is_significant b w x y) already
     | inr visited ↦ s.told (y * b.width + x) (place x y wide high) (sym (contains-inside b.width w.visited x y wide) ∙ not-false (is_visited b w x y) visited) from
@@ -341,7 +341,7 @@ module _ (b : Block) (p : ℕ) (whole : length b.values ≡ b.width * b.height) 
       (sign_told-sound (before_sign w r) column.x (slice_index column.rows r) within.wide (within.high r 0 found.0) found.1 s)
 
   run_end-grows : (w : Walk) (column : Column) (r : Option ℕ) → Grows w.significant (run_end b p column w r).significant
-  unfolding run_end with_decision sign_told with_sample
+  unfolding run_end with_decision sign_told
   run_end-grows w column None i h = h
   run_end-grows w column (Some r) i h =
       rows_cleaned-grows column.x (drop (suc r) column.rows) (sign_told b column.x (slice_index column.rows r) (before_sign w r)) i (set_grows w.significant (slice_index column.rows r * b.width + column.x) i h)
@@ -412,7 +412,6 @@ module _ (b : Block) (p : ℕ) (whole : length b.values ≡ b.width * b.height) 
   -- ---- the whole plane
 
   above_at : (i : ℕ) → i < length b.values → get_or (map (is_significant_above p) b.values) i false ≡ nat_le (2 ^ suc p) (magnitude b i)
-  unfolding is_significant_above
   above_at i inside = get_or-map (is_significant_above p) b.values i (pos 0) false inside
 
   start-sound : Sound (plane_start b p)
