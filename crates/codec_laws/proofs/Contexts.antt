@@ -7,7 +7,8 @@ use Rattle.std.proofs.lemmas.List.Elements.{All-nil, All-append, All-push}
 use Rattle.codec_terms.specs.declared.picture.BandKind.{BandKind}
 use Rattle.codec_terms.specs.declared.picture.BandKind.TheVariants.{LL, HL, LH, HH}
 use Rattle.codec_terms.specs.Contexts.{zero_context_low, zero_context_high, zero_context, zero_context_at, horizontal, vertical, diagonal, horizontal_sign, vertical_sign, sign_context, sign_context_at, refine_context, refine_context_at, Column, scan}
-use Rattle.codec_terms.specs.BlockDecisions.{Block, Walk, negatives, plane_bit, zero_context_of, is_reached, is_refined, is_first, is_left, is_run, with_decision, sign_told, bit_told, propagated, refined, cleaned, run_end, column_propagated, column_refined, column_cleaned, propagation, refinement, cleanup, plane_start, first_plane_decisions, plane_decisions, planes_down_to, decisions_of, decisions, plane_count, visited_at, run_told}
+use Rattle.codec_terms.specs.BlockDecisions.{Block, Walk, negatives, plane_bit, zero_context_of, is_reached, is_refined, is_first, is_left, is_run, with_decision, sign_told, bit_told, propagated, refined, cleaned, run_end, column_propagated, column_refined, column_cleaned, propagation, refinement, cleanup, decisions, plane_count, visited_at, run_told, next_told, nothing_told, pass_told, passes_told}
+use Rattle.codec_terms.specs.Passes.{Pass, Propagation, Refinement, Cleanup, passes_down_to}
 use Rattle.codec_laws.specs.Contexts.{IsContext, InSign, InRefinement}
 use Rattle.codec_laws.proofs.Lists.{fold_keeps, All-flat_map, All-each}
 
@@ -142,27 +143,23 @@ unfolding refinement
 refinement-in b p w each = fold_keeps InContexts (column_refined b p) (column_refined-in b p) w (scan b.width b.height) each
 
 cleanup-in : (b : Block) (p : ℕ) (w : Walk) → InContexts w → InContexts (cleanup b p w)
-unfolding cleanup
+unfolding cleanup InContexts
 cleanup-in b p w each = fold_keeps InContexts (column_cleaned b p) (column_cleaned-in b p) w (scan b.width b.height) each
 
-start-in : (b : Block) (p : ℕ) → InContexts (plane_start b p)
+pass-in : (b : Block) (p : ℕ) (pass : Pass) (w : Walk) → InContexts w → InContexts (pass_told b p pass w)
+unfolding pass_told
+pass-in b p Propagation w each = propagation-in b p w each
+pass-in b p Refinement w each = refinement-in b p w each
+pass-in b p Cleanup w each = cleanup-in b p w each
+
+nothing-in : (b : Block) → InContexts (nothing_told b)
 unfolding InContexts
-start-in b p = All-nil IsContext
+nothing-in b = All-nil IsContext
 
-first_plane-in : (b : Block) (p : ℕ) → All IsContext (first_plane_decisions b p)
-unfolding InContexts first_plane_decisions
-first_plane-in b p = cleanup-in b p (plane_start b p) (start-in b p)
-
-plane-in : (b : Block) (p : ℕ) → All IsContext (plane_decisions b p)
-unfolding InContexts plane_decisions
-plane-in b p = cleanup-in b p _ (refinement-in b p _ (propagation-in b p (plane_start b p) (start-in b p)))
-
-planes-in : (b : Block) (p n : ℕ) → All IsContext (decisions_of b p n)
-planes-in b p zero = All-nil IsContext
-planes-in b p (suc n) =
-    All-append IsContext (first_plane_decisions b (p + n)) (flat_map (plane_decisions b) (planes_down_to p n)) (first_plane-in b (p + n))
-    (All-flat_map IsContext (plane_decisions b) (planes_down_to p n) (All-each (λ q. All IsContext (plane_decisions b q)) (plane-in b) (planes_down_to p n)))
+passes-in : (b : Block) (passes : List (ℕ × Pass)) → InContexts (passes_told b passes)
+unfolding passes_told
+passes-in b passes = fold_keeps InContexts (next_told b) (λ w pass each. pass-in b pass.0 pass.1 w each) (nothing_told b) passes (nothing-in b)
 
 pub decisions-in : (b : Block) (p : ℕ) → All IsContext (decisions b p)
-unfolding decisions
-decisions-in b p = planes-in b p (plane_count b - p)
+unfolding decisions InContexts
+decisions-in b p = passes-in b (passes_down_to p (plane_count b - p))

@@ -10,11 +10,11 @@ use Rattle.std.proofs.lemmas.List.Elements.{All-nil, All-cons, All-map}
 use Rattle.codec_terms.specs.declared.picture.BandKind.{BandKind}
 use Rattle.codec_terms.specs.declared.picture.BandKind.TheVariants.{LL, HL, LH, HH}
 use Rattle.codec_terms.specs.Contexts.{is_in, horizontal, vertical, diagonal, zero_context, zero_context_at, scan, contains}
-use Rattle.codec_terms.specs.BlockDecisions.{Block, Walk, is_significant, is_visited, zero_context_of, bit_told, is_reached, visited_at, propagated, is_refined, refined, column_propagated, column_refined, propagation, refinement, cleanup, is_significant_above, plane_start, first_plane_decisions, plane_decisions, plane_count}
+use Rattle.codec_terms.specs.BlockDecisions.{Block, Walk, is_significant, is_visited, zero_context_of, bit_told, is_reached, visited_at, propagated, is_refined, refined, column_propagated, column_refined, propagation, refinement, cleanup, is_significant_above, plane_start, plane_count}
 use Rattle.codec_laws.proofs.Planes.{greatest-below, within-bit_length}
 
 -- no sample is in the set
-abbrev IsEmpty : List Bool → Type 0
+abbrev pub IsEmpty : List Bool → Type 0
 IsEmpty samples = (i : ℕ) → get_or samples i false ≡ false
 
 is_in-empty : (width : ℕ) (samples : List Bool) (x y : ℕ) → IsEmpty samples → is_in width samples x y ≡ false
@@ -90,7 +90,7 @@ values_below b k small few i inside =
     let is : get_or sizes i 0 ≡ unsigned_abs (get_or b.values i (pos 0)) = get_or-map unsigned_abs b.values i (pos 0) 0 inside in
     omega (arith, greatest, one, is)
 
-start-empty : (b : Block) (p : ℕ) → All (λ v. unsigned_abs v < 2 ^ 64) b.values → plane_count b ≤ suc p → IsEmpty (plane_start b p).significant
+pub start-empty : (b : Block) (p : ℕ) → All (λ v. unsigned_abs v < 2 ^ 64) b.values → plane_count b ≤ suc p → IsEmpty (plane_start b p).significant
 start-empty b p small few i = elim (cases_lt i (length b.values)) [
   | inl inside ↦ get_or-map (is_significant_above p) b.values i (pos 0) false inside ∙ lt-leb (2 ^ suc p) (unsigned_abs (get_or b.values i (pos 0))) (values_below b (suc p) small few i inside)
   | inr past ↦ get_or_past (map (is_significant_above p) b.values) i false (rw (length-map b.values (is_significant_above p)) past)
@@ -102,7 +102,6 @@ propagation-highest b p small few = propagation-nothing b p (plane_start b p) (s
 pub refinement-highest : (b : Block) (p : ℕ) → All (λ v. unsigned_abs v < 2 ^ 64) b.values → plane_count b ≤ suc p → refinement b p (plane_start b p) ≡ plane_start b p
 refinement-highest b p small few = refinement-nothing b p (plane_start b p) (start-empty b p small few)
 
-pub plane_decisions-highest : (b : Block) (p : ℕ) → All (λ v. unsigned_abs v < 2 ^ 64) b.values → plane_count b ≤ suc p → plane_decisions b p ≡ first_plane_decisions b p
-unfolding plane_decisions first_plane_decisions
-plane_decisions-highest b p small few =
+pub decisions-highest : (b : Block) (p : ℕ) → All (λ v. unsigned_abs v < 2 ^ 64) b.values → plane_count b ≤ suc p → (cleanup b p (refinement b p (propagation b p (plane_start b p)))).decisions ≡ (cleanup b p (plane_start b p)).decisions
+decisions-highest b p small few =
     ap (λ (w : Walk). (cleanup b p w).decisions) (ap (refinement b p) (propagation-highest b p small few) ∙ refinement-highest b p small few)

@@ -11,6 +11,8 @@ pub mod Headers
 pub mod HighestPlane
 pub mod Lists
 pub mod PackedBits
+pub mod PlaneLaws
+pub mod PlanesFollow
 pub mod Planes
 pub mod Significance
 pub mod TagTrees

@@ -407,7 +407,13 @@ module _ (b : Block) (p : ℕ) (whole : length b.values ≡ b.width * b.height) 
   cleanup-sound : (w : Walk) → Sound w → Sound (cleanup b p w)
   unfolding cleanup
   cleanup-sound w s =
-      fold_keeps_within Sound (IsWithin b.width b.height) (column_cleaned b p) column_cleaned-sound w (scan b.width b.height) (scan_within b.width b.height) s
+      let f = fold_keeps_within Sound (IsWithin b.width b.height) (column_cleaned b p) column_cleaned-sound w (scan b.width b.height) (scan_within b.width b.height) s in
+      record {
+        size = f.size;
+        only = f.only;
+        above = f.above;
+        told = λ i inside visited from. absurd (false≢true (sym (get_or-replicate (length b.values) i false false inside) ∙ visited));
+      }
 
   -- ---- the whole plane
 

@@ -1,13 +1,14 @@
-ghost use Rattle.std.specs.Prelude.{◌≡◌, ◌<◌, ◌≤◌, ◌*◌, ◌^◌, suc, ℕ, ℤ, Bool, List, All, length, map, nat_le, unsigned_abs};
+ghost use Rattle.std.specs.Prelude.{◌≡◌, ◌<◌, ◌≤◌, ◌*◌, ◌-◌, ◌^◌, suc, ℕ, ℤ, Bool, List, All, length, map, nat_le, unsigned_abs};
 ghost use Rattle.codec_terms.specs.declared.picture.Shape.{Shape};
 ghost use Rattle.codec_terms.specs.declared.picture.Band.{Band};
 ghost use Rattle.codec_terms.specs.declared.picture.BandKind.{BandKind};
 ghost use Rattle.codec_terms.specs.Bands.{plane_limit};
 ghost use Rattle.codec_terms.specs.Contexts.{zero_context, sign_context, refine_context};
-ghost use Rattle.codec_terms.specs.BlockDecisions.{Block, plane_start, propagation, refinement, cleanup, first_plane_decisions, plane_decisions, plane_count, decisions};
+ghost use Rattle.codec_terms.specs.BlockDecisions.{Block, plane_start, propagation, refinement, cleanup, plane_count, decisions};
 ghost use Rattle.codec_terms.specs.Codestream.{block_of};
 ghost use Rattle.codec_laws.specs.Bounds.{FitsBand};
 ghost use Rattle.codec_laws.specs.Contexts.{IsContext, InSign, InRefinement};
+ghost use Rattle.codec_laws.specs.PlaneDecisions.{block_decisions};
 
 /// Zero coding, signs and refinement have contexts of their own, and all that a code-block's decisions have are
 /// among the nineteen of the arithmetic coder.
@@ -41,5 +42,14 @@ pub fn highest_plane_laws()
     ensures refinement { (block : Block) (p : ℕ) → All (λ v. unsigned_abs v < 2 ^ 64) block.values
         → plane_count block ≤ suc p → refinement block p (plane_start block p) ≡ plane_start block p }
     ensures decisions { (block : Block) (p : ℕ) → All (λ v. unsigned_abs v < 2 ^ 64) block.values
-        → plane_count block ≤ suc p → plane_decisions block p ≡ first_plane_decisions block p }
+        → plane_count block ≤ suc p
+        → (cleanup block p (refinement block p (propagation block p (plane_start block p)))).decisions
+        ≡ (cleanup block p (plane_start block p)).decisions }
+{}
+
+/// A code-block's decisions are those of its bit-planes in turn, each from the samples on that have a bit above it.
+pub fn plane_decision_laws()
+    ensures { (block : Block) (p : ℕ) → length block.values ≡ block.width * block.height
+        → All (λ v. unsigned_abs v < 2 ^ 64) block.values
+        → decisions block p ≡ block_decisions block p (plane_count block - p) }
 {}

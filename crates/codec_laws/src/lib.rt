@@ -7,7 +7,9 @@ mod coefficients;
 mod packets;
 mod streams;
 
-pub use blocks::{context_laws, highest_plane_laws, plane_laws, significance_laws};
+pub use blocks::{
+    context_laws, highest_plane_laws, plane_decision_laws, plane_laws, significance_laws,
+};
 pub use coefficients::{coefficient_laws, quantiser_laws, wave_laws};
 pub use packets::{
     block_laws, codeword_laws, header_number_laws, packed_bits_laws, packet_band_laws,

@@ -8,7 +8,6 @@ pub mod GridLaws
 pub mod HeaderLaws
 pub mod OrderLaws
 pub mod PassLaws
-pub mod PlaneLaws
 pub mod QuantiserLaws
 pub mod StepLaws
 pub mod StreamLaws

@@ -6,18 +6,10 @@ use Rattle.codec_terms.specs.Mq.{Decision}
 use Rattle.codec_terms.specs.Passes.{Propagation, Refinement, Cleanup, further_passes, passes_down_to}
 use Rattle.codec_terms.specs.BlockDecisions.{Block, Walk, propagation, refinement, no_samples, cleanup, pass_told, next_told, nothing_told, passes_told, plane_count, decisions, plane_start}
 use Rattle.codec_terms.proofs.WalkLaws.{behind, fold-next_told-behind}
+use Rattle.codec_laws.specs.PlaneDecisions.{plane_told, planes_decisions, block_decisions}
 
 abbrev the_walk : List Decision → List Bool → List Bool → Walk
 the_walk ds significant visited = record { decisions = ds; significant = significant; visited = visited }
-
--- what all three passes of a bit-plane lead to
-abbrev pub plane_told : Block → ℕ → Walk → Walk
-plane_told b p w = cleanup b p (refinement b p (propagation b p w))
-
--- the decisions of n bit-planes down to p, each from its own beginning on
-abbrev pub planes_decisions : Block → ℕ → ℕ → List Decision
-planes_decisions b p zero = []
-planes_decisions b p (suc n) = (plane_told b (p + n) (plane_start b (p + n))).decisions ++ planes_decisions b p n
 
 -- each plane leaves the significant samples that the next one begins with
 pub record PlanesFollow (b : Block) : Type 0 where
@@ -57,11 +49,6 @@ further_told b follow p (suc n) ds =
     ∙ (further_told b follow p n (ds ++ v.decisions) ∙ append_assoc ds v.decisions (planes_decisions b p (suc n)))
 
 -- ---- the block, of whose planes n are coded
-
--- those of the planes down to p, of which the first has a cleanup pass alone
-abbrev pub block_decisions : Block → ℕ → ℕ → List Decision
-block_decisions b p zero = []
-block_decisions b p (suc n) = (cleanup b (p + n) (plane_start b (p + n))).decisions ++ planes_decisions b p n
 
 nothing_told-start : (b : Block) → PlanesFollow b → (p : ℕ) → plane_count b ≡ suc p → nothing_told b ≡ plane_start b p
 nothing_told-start b follow p highest = same_walk _ _ _ _ _ _ refl (sym (follow.first p highest)) refl
