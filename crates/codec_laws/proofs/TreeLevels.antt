@@ -1,13 +1,13 @@
 -- A new tag tree is what a reader that knows nothing has, and it has all its leaves.
 use Rattle.std.proofs.Common.{◌≡◌, ℕ, zero, suc, ◌+◌, ◌*◌, ◌/◌, ◌%◌, ◌^◌, ◌<◌, ◌≤◌, refl, sym, ap, ap₂, subst, subst₂, ◌∙◌, arith, Bool, true, false, max, List, [], ◌∷◌, length, map, get_or, replicate, All, slice_index, div-add-mod'}
-use Rattle.std.specs.Prelude.{◌==◌, ◌&&◌, ⊤}
+use Rattle.std.specs.Prelude.{if◌then◌else◌, ⊤}
 use Rattle.std.specs.Int.{div_ceil}
-use Rattle.std.proofs.lemmas.Bool.{false≢true, and_left, and_right, ne_eqb}
+use Rattle.std.proofs.lemmas.Bool.{false≢true, ne_eqb}
 use Rattle.std.proofs.lemmas.Nat.{mod_below, div_below}
 use Rattle.std.proofs.lemmas.List.{length-map, get_or-map, length-replicate, get_or-replicate}
 use Rattle.std.proofs.lemmas.List.Elements.{All-nil, All-cons, All-head, All-tail, All-weaker}
 use Rattle.codec_terms.specs.Grid.{grid_of, grid_item}
-use Rattle.codec_terms.specs.TagTree.{pairs_joined, least_of_each, parents, is_one_node, levels_from, value_levels, Node, new_node, no_node, new_tree, Found, nothing_found, blank_grid, blank_levels, blank_tree}
+use Rattle.codec_terms.specs.TagTree.{pairs_joined, least_of_each, parents, is_empty, is_root, levels_from, value_levels, Node, new_node, no_node, new_tree, Found, nothing_found, blank_grid, blank_levels, blank_tree}
 use Rattle.codec_laws.specs.Bounds.{IsRowOf, IsGridOf}
 use Rattle.codec_laws.specs.TreeReading.{no_found, IsInside, AreSame, AreSameLevels, HasPath, AreSameTrees, HasLeaf, last_node, leaf_of}
 use Rattle.codec_laws.proofs.Lists.{All-each}
@@ -184,22 +184,6 @@ new_level P least low columns rows below others each above h = (
 
 -- ---- from the leaves up
 
--- the two tests by which levels end agree
-one_node : (columns : ℕ) (rows : List (List ℕ)) → AreRows columns rows → 0 < columns → 0 < length rows → is_one_node rows ≡ (columns == 1 && length rows == 1)
-one_node columns [] each wide high = absurd (omega arith)
-one_node columns ([] ∷ rows) each wide high = let size = All-head (λ row. length row ≡ columns) [] rows each in absurd (omega arith)
-one_node columns ((a ∷ []) ∷ []) each wide high =
-    let size = All-head (λ row. length row ≡ columns) (a ∷ []) [] each in
-    subst (λ n. true ≡ (n == 1 && 1 == 1)) size refl
-one_node columns ((a ∷ b ∷ row) ∷ []) each wide high =
-    let size = All-head (λ row. length row ≡ columns) (a ∷ b ∷ row) [] each in
-    sym (and_left (columns == 1) (1 == 1) (ne_eqb columns 1 (λ e. omega arith)))
-one_node columns ((a ∷ []) ∷ next ∷ rows) each wide high =
-    sym (and_right (columns == 1) (length ((a ∷ []) ∷ next ∷ rows) == 1) (ne_eqb (suc (suc (length rows))) 1 (λ e. omega arith)))
-one_node columns ((a ∷ b ∷ row) ∷ next ∷ rows) each wide high =
-    let size = All-head (λ row. length row ≡ columns) (a ∷ b ∷ row) (next ∷ rows) each in
-    sym (and_left (columns == 1) (length ((a ∷ b ∷ row) ∷ next ∷ rows) == 1) (ne_eqb columns 1 (λ e. omega arith)))
-
 -- a level below its parents
 below_parents : (columns : ℕ) (rows : List (List ℕ)) (below : List (List (List Node))) (others : List (List (List Found))) → AreRows columns rows
     → BelowNew rows below others → BelowNew (parents rows) (nodes rows ∷ below) (blank_grid columns (length rows) ∷ others)
@@ -218,23 +202,20 @@ root_level : (columns : ℕ) (rows : List (List ℕ)) (below : List (List (List 
     → AreSameLevels (λ x y. ⊤) (λ x y. 0) (λ x y. 0) (nodes rows ∷ below) (blank_grid columns (length rows) ∷ others)
 root_level columns rows below others each h = new_level (λ x y. ⊤) (λ x y. 0) (λ x y. 0) columns rows below others each (λ x y wide high. (tt, refl, omega arith)) h
 
-levels_same : (n columns : ℕ) (rows : List (List ℕ)) (below : List (List (List ℕ))) (others : List (List (List Found))) → AreRows columns rows → 0 < columns → 0 < length rows
-    → BelowNew rows (map nodes below) others → AreSameLevels (λ x y. ⊤) (λ x y. 0) (λ x y. 0) (map nodes (levels_from n rows below)) (blank_levels n columns (length rows) others)
+levels_same : (n columns rows : ℕ) (level : List (List ℕ)) (below : List (List (List ℕ))) (others : List (List (List Found))) → AreRows columns level → length level ≡ rows
+    → BelowNew level (map nodes below) others → AreSameLevels (λ x y. ⊤) (λ x y. 0) (λ x y. 0) (map nodes (levels_from n columns rows level below)) (blank_levels n columns rows others)
 unfolding levels_from blank_levels
-levels_same zero columns rows below others each wide high h = root_level columns rows (map nodes below) others each h
-levels_same (suc n) columns rows below others each wide high h =
-    let up = levels_same n (div_ceil columns 2) (parents rows) (rows ∷ below) (blank_grid columns (length rows) ∷ others) (AreRows-parents columns rows each)
-    (omega arith) (rw (length-parents rows) (omega arith)) (below_parents columns rows (map nodes below) others each h) in
-    let later = subst (λ m. AreSameLevels (λ x y. ⊤) (λ x y. 0) (λ x y. 0) (map nodes (levels_from n (parents rows) (rows ∷ below))) (blank_levels n (div_ceil columns 2) m (blank_grid columns (length rows) ∷ others)))
-    (length-parents rows) up in
-    subst (λ t. AreSameLevels (λ x y. ⊤) (λ x y. 0) (λ x y. 0) (map nodes (elim t [ true ↦ rows ∷ below | false ↦ levels_from n (parents rows) (rows ∷ below) ])) (blank_levels (suc n) columns (length rows) others))
-    (sym (one_node columns rows each wide high)) (by_test later (columns == 1 && length rows == 1))
+levels_same zero columns rows level below others each size h = rw (← size) (root_level columns level (map nodes below) others each h)
+levels_same (suc n) columns rows level below others each size h =
+    by_test (levels_same n (div_ceil columns 2) (div_ceil rows 2) (parents level) (level ∷ below) (blank_grid columns rows ∷ others) (AreRows-parents columns level each)
+    (length-parents level ∙ ap (λ m. div_ceil m 2) size) (rw (← size) (below_parents columns level (map nodes below) others each h))) (is_root columns rows)
   where
-    by_test : AreSameLevels (λ x y. ⊤) (λ x y. 0) (λ x y. 0) (map nodes (levels_from n (parents rows) (rows ∷ below))) (blank_levels n (div_ceil columns 2) (div_ceil (length rows) 2) (blank_grid columns (length rows) ∷ others))
+    by_test : AreSameLevels (λ x y. ⊤) (λ x y. 0) (λ x y. 0) (map nodes (levels_from n (div_ceil columns 2) (div_ceil rows 2) (parents level) (level ∷ below)))
+        (blank_levels n (div_ceil columns 2) (div_ceil rows 2) (blank_grid columns rows ∷ others))
         → (t : Bool) → AreSameLevels (λ x y. ⊤) (λ x y. 0) (λ x y. 0)
-        (map nodes (elim t [ true ↦ rows ∷ below | false ↦ levels_from n (parents rows) (rows ∷ below) ]))
-        (elim t [ true ↦ blank_grid columns (length rows) ∷ others | false ↦ blank_levels n (div_ceil columns 2) (div_ceil (length rows) 2) (blank_grid columns (length rows) ∷ others) ])
-    by_test later true = root_level columns rows (map nodes below) others each h
+        (map nodes (elim t [ true ↦ level ∷ below | false ↦ levels_from n (div_ceil columns 2) (div_ceil rows 2) (parents level) (level ∷ below) ]))
+        (elim t [ true ↦ blank_grid columns rows ∷ others | false ↦ blank_levels n (div_ceil columns 2) (div_ceil rows 2) (blank_grid columns rows ∷ others) ])
+    by_test later true = rw (← size) (root_level columns level (map nodes below) others each h)
     by_test later false = later
 
 -- ---- a new tree
@@ -248,38 +229,48 @@ AreRows-grid_of columns rows values whole =
 
 pub AreSameTrees-new : (columns rows : ℕ) (values : List ℕ) → 0 < columns → 0 < rows → length values ≡ rows * columns → AreSameTrees (new_tree columns rows values) (blank_tree columns rows)
 unfolding new_tree blank_tree
-AreSameTrees-new columns rows values wide high whole =
-    let size : length (grid_of columns rows values) ≡ rows = (grid_rows columns rows values whole).size in
-    record {
-      columns = refl;
-      levels = subst (λ m. AreSameLevels (λ x y. ⊤) (λ x y. 0) (λ x y. 0) (map nodes (value_levels columns rows values)) (blank_levels (columns + rows) columns m [])) size
-          (levels_same (columns + rows) columns (grid_of columns rows values) [] [] (AreRows-grid_of columns rows values whole) wide (rw size high) tt);
-    }
+AreSameTrees-new columns rows values wide high whole = record { columns = refl; levels = by_test (is_empty columns rows) }
+  where
+    by_test : (t : Bool) → AreSameLevels (λ x y. ⊤) (λ x y. 0) (λ x y. 0)
+        (map nodes (if t then [] else levels_from (columns + rows) columns rows (grid_of columns rows values) []))
+        (if t then [] else blank_levels (columns + rows) columns rows [])
+    by_test true = tt
+    by_test false =
+        levels_same (columns + rows) columns rows (grid_of columns rows values) [] [] (AreRows-grid_of columns rows values whole) (grid_rows columns rows values whole).size tt
+
+-- a grid that has a leaf has levels
+value_levels-is : (columns rows : ℕ) (values : List ℕ) → 0 < columns → 0 < rows → value_levels columns rows values ≡ levels_from (columns + rows) columns rows (grid_of columns rows values) []
+value_levels-is columns rows values wide high =
+    let full : is_empty columns rows ≡ false = rw (ne_eqb columns 0 (λ e. omega arith), ne_eqb rows 0 (λ e. omega arith)) refl in
+    ap (λ t. if t then [] else levels_from (columns + rows) columns rows (grid_of columns rows values) []) full
 
 path_here : (columns : ℕ) (rows : List (List ℕ)) (below : List (List (List ℕ))) (x y : ℕ) → AreRows columns rows → x / 2 ^ length below < columns → y / 2 ^ length below < length rows
     → HasPath x y (map nodes below) → HasPath x y (nodes rows ∷ map nodes below)
 path_here columns rows below x y each wide high path =
     (subst (λ n. IsInside (nodes rows) (x / 2 ^ n) (y / 2 ^ n)) (sym (length-map below nodes)) (inside_nodes columns rows (x / 2 ^ length below) (y / 2 ^ length below) each wide high), path)
 
-levels_path : (n columns : ℕ) (rows : List (List ℕ)) (below : List (List (List ℕ))) (x y : ℕ) → AreRows columns rows → x / 2 ^ length below < columns → y / 2 ^ length below < length rows
-    → HasPath x y (map nodes below) → HasPath x y (map nodes (levels_from n rows below))
+levels_path : (n columns rows : ℕ) (level : List (List ℕ)) (below : List (List (List ℕ))) (x y : ℕ) → AreRows columns level → x / 2 ^ length below < columns → y / 2 ^ length below < length level
+    → HasPath x y (map nodes below) → HasPath x y (map nodes (levels_from n columns rows level below))
 unfolding levels_from
-levels_path zero columns rows below x y each wide high path = path_here columns rows below x y each wide high path
-levels_path (suc n) columns rows below x y each wide high path =
+levels_path zero columns rows level below x y each wide high path = path_here columns level below x y each wide high path
+levels_path (suc n) columns rows level below x y each wide high path =
     let side : x / 2 ^ suc (length below) < div_ceil columns 2 = rw (← (halved x (length below))) (omega arith) in
-    let top : y / 2 ^ suc (length below) < length (parents rows) = rw (← (halved y (length below)), length-parents rows) (omega arith) in
-    by_test (levels_path n (div_ceil columns 2) (parents rows) (rows ∷ below) x y (AreRows-parents columns rows each) side top (path_here columns rows below x y each wide high path)) (is_one_node rows)
+    let top : y / 2 ^ suc (length below) < length (parents level) = rw (← (halved y (length below)), length-parents level) (omega arith) in
+    by_test (levels_path n (div_ceil columns 2) (div_ceil rows 2) (parents level) (level ∷ below) x y (AreRows-parents columns level each) side top (path_here columns level below x y each wide high path))
+    (is_root columns rows)
   where
-    by_test : HasPath x y (map nodes (levels_from n (parents rows) (rows ∷ below))) → (t : Bool) → HasPath x y (map nodes (elim t [ true ↦ rows ∷ below | false ↦ levels_from n (parents rows) (rows ∷ below) ]))
-    by_test later true = path_here columns rows below x y each wide high path
+    by_test : HasPath x y (map nodes (levels_from n (div_ceil columns 2) (div_ceil rows 2) (parents level) (level ∷ below)))
+        → (t : Bool) → HasPath x y (map nodes (elim t [ true ↦ level ∷ below | false ↦ levels_from n (div_ceil columns 2) (div_ceil rows 2) (parents level) (level ∷ below) ]))
+    by_test later true = path_here columns level below x y each wide high path
     by_test later false = later
 
-some_levels : (n : ℕ) (rows : List (List ℕ)) (below : List (List (List ℕ))) → 0 < length (levels_from n rows below)
+some_levels : (n columns rows : ℕ) (level : List (List ℕ)) (below : List (List (List ℕ))) → 0 < length (levels_from n columns rows level below)
 unfolding levels_from
-some_levels zero rows below = omega arith
-some_levels (suc n) rows below = by_test (some_levels n (parents rows) (rows ∷ below)) (is_one_node rows)
+some_levels zero columns rows level below = omega arith
+some_levels (suc n) columns rows level below = by_test (some_levels n (div_ceil columns 2) (div_ceil rows 2) (parents level) (level ∷ below)) (is_root columns rows)
   where
-    by_test : 0 < length (levels_from n (parents rows) (rows ∷ below)) → (t : Bool) → 0 < length {A = List (List ℕ)} (elim t [ true ↦ rows ∷ below | false ↦ levels_from n (parents rows) (rows ∷ below) ])
+    by_test : 0 < length (levels_from n (div_ceil columns 2) (div_ceil rows 2) (parents level) (level ∷ below))
+        → (t : Bool) → 0 < length {A = List (List ℕ)} (elim t [ true ↦ level ∷ below | false ↦ levels_from n (div_ceil columns 2) (div_ceil rows 2) (parents level) (level ∷ below) ])
     by_test later true = omega arith
     by_test later false = later
 
@@ -294,20 +285,25 @@ HasLeaf-new columns rows values at whole inside =
     let some : 0 < columns = pos_of_product rows columns at inside in
     let column : at % columns < columns = mod_below at columns some in
     let row : at / columns < rows = div_below at columns rows some inside in
+    let levels = value_levels-is columns rows values some (omega (arith, row)) in
     record {
-      path = levels_path (columns + rows) columns (grid_of columns rows values) [] (at % columns) (at / columns) (AreRows-grid_of columns rows values whole) (omega (arith, column)) (rw size (omega (arith, row))) tt;
-      some = rw (length-map (value_levels columns rows values) nodes) (some_levels (columns + rows) (grid_of columns rows values) []);
+      path = subst (λ (l : List (List (List ℕ))). HasPath (at % columns) (at / columns) (map nodes l)) (sym levels)
+          (levels_path (columns + rows) columns rows (grid_of columns rows values) [] (at % columns) (at / columns) (AreRows-grid_of columns rows values whole) (omega (arith, column))
+          (rw size (omega (arith, row))) tt);
+      some = rw (length-map (value_levels columns rows values) nodes, levels) (some_levels (columns + rows) columns rows (grid_of columns rows values) []);
     }
 
 -- ---- its leaves
 
-last_level : (n : ℕ) (rows : List (List ℕ)) (below : List (List (List ℕ))) (x y : ℕ) → last_node (map nodes (levels_from n rows below)) x y ≡ last_node (nodes rows ∷ map nodes below) x y
+last_level : (n columns rows : ℕ) (level : List (List ℕ)) (below : List (List (List ℕ))) (x y : ℕ)
+    → last_node (map nodes (levels_from n columns rows level below)) x y ≡ last_node (nodes level ∷ map nodes below) x y
 unfolding levels_from
-last_level zero rows below x y = refl
-last_level (suc n) rows below x y = by_test (last_level n (parents rows) (rows ∷ below) x y) (is_one_node rows)
+last_level zero columns rows level below x y = refl
+last_level (suc n) columns rows level below x y = by_test (last_level n (div_ceil columns 2) (div_ceil rows 2) (parents level) (level ∷ below) x y) (is_root columns rows)
   where
-    by_test : last_node (map nodes (levels_from n (parents rows) (rows ∷ below))) x y ≡ last_node (nodes rows ∷ map nodes below) x y
-        → (t : Bool) → last_node (map nodes (elim t [ true ↦ rows ∷ below | false ↦ levels_from n (parents rows) (rows ∷ below) ])) x y ≡ last_node (nodes rows ∷ map nodes below) x y
+    by_test : last_node (map nodes (levels_from n (div_ceil columns 2) (div_ceil rows 2) (parents level) (level ∷ below))) x y ≡ last_node (nodes level ∷ map nodes below) x y
+        → (t : Bool)
+        → last_node (map nodes (elim t [ true ↦ level ∷ below | false ↦ levels_from n (div_ceil columns 2) (div_ceil rows 2) (parents level) (level ∷ below) ])) x y ≡ last_node (nodes level ∷ map nodes below) x y
     by_test later true = refl
     by_test later false = later
 
@@ -319,7 +315,8 @@ leaf_of-new columns rows values at whole inside =
     let column : at % columns < columns = mod_below at columns some in
     let row : at / columns < rows = div_below at columns rows some inside in
     let one : (n : ℕ) → n / 2 ^ 0 ≡ n = λ n. omega arith in
-    last_level (columns + rows) (grid_of columns rows values) [] (at % columns) (at / columns)
+    ap (λ (l : List (List (List ℕ))). last_node (map nodes l) (at % columns) (at / columns)) (value_levels-is columns rows values some (omega (arith, row)))
+    ∙ last_level (columns + rows) columns rows (grid_of columns rows values) [] (at % columns) (at / columns)
     ∙ ap₂ (λ (u v : ℕ). grid_item no_node (nodes (grid_of columns rows values)) u v) (one (at % columns)) (one (at / columns))
     ∙ node_item columns (grid_of columns rows values) (at % columns) (at / columns) (AreRows-grid_of columns rows values whole) column (rw size row)
     ∙ ap new_node (get_or-grid_of columns rows values (at % columns) (at / columns) 0 column row ∙ ap (λ n. get_or values n 0) (div-add-mod' at columns))
