@@ -227,9 +227,9 @@ AreRows-grid_of : (columns rows : ℕ) (values : List ℕ) → length values ≡
 AreRows-grid_of columns rows values whole =
     All-weaker (IsRowOf (λ (v : ℕ). ⊤) columns) (λ row. length row ≡ columns) (λ row r. r.size) (grid_of columns rows values) (grid_rows columns rows values whole).each
 
-pub AreSameTrees-new : (columns rows : ℕ) (values : List ℕ) → 0 < columns → 0 < rows → length values ≡ rows * columns → AreSameTrees (new_tree columns rows values) (blank_tree columns rows)
+pub AreSameTrees-new : (columns rows : ℕ) (values : List ℕ) → length values ≡ rows * columns → AreSameTrees (new_tree columns rows values) (blank_tree columns rows)
 unfolding new_tree blank_tree
-AreSameTrees-new columns rows values wide high whole = record { columns = refl; levels = by_test (is_empty columns rows) }
+AreSameTrees-new columns rows values whole = record { columns = refl; levels = by_test (is_empty columns rows) }
   where
     by_test : (t : Bool) → AreSameLevels (λ x y. ⊤) (λ x y. 0) (λ x y. 0)
         (map nodes (if t then [] else levels_from (columns + rows) columns rows (grid_of columns rows values) []))

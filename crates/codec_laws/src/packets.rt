@@ -81,7 +81,7 @@ pub fn header_number_laws()
 /// A new tag tree is what a reader that knows nothing has. The bits of a leaf, for any threshold, leave the reader with
 /// what the writer then has, so that leaf may follow leaf. They tell a value below the threshold, and the reader knows it.
 pub fn tag_tree_laws()
-    ensures new { (columns rows : ℕ) (values : List ℕ) → 0 < columns → 0 < rows → length values ≡ rows * columns
+    ensures new { (columns rows : ℕ) (values : List ℕ) → length values ≡ rows * columns
         → AreSameTrees (new_tree columns rows values) (blank_tree columns rows) }
     ensures leaves { (columns rows : ℕ) (values : List ℕ) (at : ℕ) → length values ≡ rows * columns → at < rows * columns
         → HasLeaf (new_tree columns rows values) at }
