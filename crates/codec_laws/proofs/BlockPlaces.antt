@@ -1,10 +1,9 @@
 -- Each code-block of a sub-band stands in one precinct, and the code-blocks give the sub-band back.
-use Rattle.std.proofs.Common.{◌≡◌, ℕ, zero, suc, ◌+◌, ◌*◌, ◌/◌, ◌%◌, ◌<◌, ◌≤◌, ap, ap₂, ◌∙◌, arith, List, [], ◌∷◌, length, take, drop, get_or, All, ℤ, pos, map, sym, refl}
-use Rattle.std.specs.Prelude.{⊤}
+use Rattle.std.proofs.Common.{◌≡◌, ℕ, zero, suc, ◌+◌, ◌*◌, ◌/◌, ◌%◌, ◌<◌, ◌≤◌, ap, ap₂, ◌∙◌, arith, List, [], ◌∷◌, ◌++◌, length, take, drop, get_or, All, ℤ, map, sym, refl}
 use Rattle.std.specs.Int.{div_ceil}
-use Rattle.std.specs.List.{flat_map, range_with_len}
+use Rattle.std.specs.List.{flat_map, range_with_len, enumerate_from, AllByRecursion}
 use Rattle.std.proofs.lemmas.Nat.{mul-add-lt, div-mul-add, mod-mul-add}
-use Rattle.std.proofs.lemmas.List.{length-map, length-append, take_all, get_or-map}
+use Rattle.std.proofs.lemmas.List.{length-map, length-append, length-drop, length-take-le, take_at, drop_at, take-append-drop, get_or-map}
 use Rattle.std.proofs.lemmas.List.FromFn.{length-map-range_with_len, get_or-map-range_with_len}
 use Rattle.std.proofs.lemmas.List.Elements.{All-weaker, All-from_recursion, All-map}
 use Rattle.codec_terms.specs.declared.picture.Shape.{Shape}
@@ -12,15 +11,13 @@ use Rattle.codec_terms.specs.declared.picture.Band.{Band}
 use Rattle.codec_terms.specs.declared.packet.PacketBlock.{PacketBlock}
 use Rattle.std.proofs.lemmas.List.Folds.{flat_map-map}
 use Rattle.codec_terms.specs.Bands.{band_columns, band_rows, band_length, all_bands, component_bands, lowest_plane, band_values}
-use Rattle.codec_terms.specs.Grid.{grid_of, part_of}
-use Rattle.codec_terms.specs.Precincts.{BlockArea, group_length, block_columns, block_rows, precinct_columns, precinct_rows, resolution, blocks_in, HasPrecincts}
+use Rattle.codec_terms.specs.Grid.{grid_of, items_of, grid_with, with_places, side_by_side, of_parts}
+use Rattle.codec_terms.specs.Precincts.{BlockArea, group_length, part_at, block_columns, block_rows, precinct_columns, precinct_rows, resolution, blocks_in, HasPrecincts}
 use Rattle.codec_terms.specs.Codestream.{block_of, row_places, block_places, packet_band, placed_block, packet_block}
-use Rattle.codec_terms.specs.StreamReading.{coefficient_at, coefficients_of_blocks}
 use Rattle.codec_terms.proofs.BlockLaws.{has_precincts}
-use Rattle.codec_laws.specs.Bounds.{IsRowOf}
-use Rattle.codec_laws.specs.Places.{OnePrecinct, row_of_blocks, grid_of_blocks}
-use Rattle.codec_laws.proofs.Grids.{IsGridOf-grid_of, IsGridOf-part_of}
-use Rattle.codec_laws.proofs.GridItems.{get_or-items_of, get_or-grid_of, get_or-part_of, rows_again}
+use Rattle.codec_terms.proofs.GridLaws.{of_parts-part_at}
+use Rattle.codec_laws.specs.Places.{OnePrecinct, blocks_of, block_grid}
+use Rattle.codec_laws.proofs.GridItems.{get_or-items_of}
 use Rattle.codec_laws.proofs.Lists.{All-flat_map, All-each}
 
 -- ---- precincts
@@ -92,65 +89,112 @@ pub length-packet_band : (shape : Shape) (q : List ℤ) (cut number : ℕ) (band
 unfolding packet_band
 length-packet_band shape q cut number band = length-map (block_places (blocks_in shape band number)) _ ∙ length-block_places (blocks_in shape band number)
 
+-- ---- grids
+
+pub map-range-same : {A : Type 0} (f g : ℕ → A) (a n : ℕ) → ((i : ℕ) → i < a + n → f i ≡ g i) → map f (range_with_len a n) ≡ map g (range_with_len a n)
+map-range-same f g a zero same = refl
+map-range-same {A} f g a (suc n) same = ap₂ (λ (x : A) (xs : List A). x ∷ xs) (same a (omega arith)) (map-range-same f g (a + 1) n (λ i inside. same i (omega arith)))
+
+pub grid_with-same : {A : Type 0} (columns rows : ℕ) (f g : ℕ → ℕ → A) → ((x y : ℕ) → x < columns → y < rows → f x y ≡ g x y) → grid_with columns rows f ≡ grid_with columns rows g
+grid_with-same columns rows f g same =
+    map-range-same (λ y. map (λ x. f x y) (range_with_len 0 columns)) (λ y. map (λ x. g x y) (range_with_len 0 columns)) 0 rows
+    (λ y high. map-range-same (λ x. f x y) (λ x. g x y) 0 columns (λ x wide. same x y (omega arith) (omega arith)))
+
+map-enumerated : {A B : Type 0} (h : ℕ × A → B) (g : ℕ → A) (a n : ℕ) → map h (enumerate_from a (map g (range_with_len a n))) ≡ map (λ i. h (i, g i)) (range_with_len a n)
+map-enumerated h g a zero = refl
+map-enumerated h g a (suc n) = ap (λ (others : List _). h (a, g a) ∷ others) (map-enumerated h g (a + 1) n)
+
+with_places-grid_with : {A B : Type 0} (f : ℕ → ℕ → A → B) (columns rows : ℕ) (g : ℕ → ℕ → A) → with_places f (grid_with columns rows g) ≡ grid_with columns rows (λ x y. f x y (g x y))
+with_places-grid_with f columns rows g =
+    map-enumerated (λ row. map (λ item. f item.0 row.0 item.1) (enumerate_from 0 row.1)) (λ y. map (λ x. g x y) (range_with_len 0 columns)) 0 rows
+    ∙ map-range-same _ _ 0 rows (λ y high. map-enumerated (λ item. f item.0 y item.1) (λ x. g x y) 0 columns)
+
+-- each row has so many items
+abbrev pub HaveColumns : {A : Type 0} → ℕ → List (List A) → Type 0
+HaveColumns columns grid = AllByRecursion (λ row. length row ≡ columns) grid
+
+pub HaveColumns-drop : {A : Type 0} (columns n : ℕ) (grid : List (List A)) → HaveColumns columns grid → HaveColumns columns (drop n grid)
+HaveColumns-drop columns zero grid all = all
+HaveColumns-drop columns (suc n) [] all = all
+HaveColumns-drop columns (suc n) (row ∷ grid) all = HaveColumns-drop columns n grid all.1
+
+pub HaveColumns-take : {A : Type 0} (columns n : ℕ) (grid : List (List A)) → HaveColumns columns grid → HaveColumns columns (take n grid)
+HaveColumns-take columns zero grid all = tt
+HaveColumns-take columns (suc n) [] all = all
+HaveColumns-take columns (suc n) (row ∷ grid) all = (all.0, HaveColumns-take columns n grid all.1)
+
+HaveColumns-grid_of : {A : Type 0} (columns rows : ℕ) (items : List A) → length items ≡ columns * rows → HaveColumns columns (grid_of columns rows items)
+unfolding grid_of
+HaveColumns-grid_of columns zero items whole = tt
+HaveColumns-grid_of columns (suc rows) items whole =
+    (length-take-le columns items (omega (arith, whole)), HaveColumns-grid_of columns rows (drop columns items) (rw (length-drop columns items, whole) (omega arith)))
+
+length-grid_of : {A : Type 0} (columns rows : ℕ) (items : List A) → length (grid_of columns rows items) ≡ rows
+unfolding grid_of
+length-grid_of columns zero items = refl
+length-grid_of columns (suc rows) items = ap suc (length-grid_of columns rows (drop columns items))
+
+items_of-grid_of : {A : Type 0} (columns rows : ℕ) (items : List A) → length items ≡ columns * rows → items_of (grid_of columns rows items) ≡ items
+unfolding grid_of
+items_of-grid_of columns zero [] whole = refl
+items_of-grid_of columns zero (x ∷ items) whole = absurd (omega (arith, whole))
+items_of-grid_of {A} columns (suc rows) items whole =
+    ap (λ (others : List A). take columns items ++ others) (items_of-grid_of columns rows (drop columns items) (rw (length-drop columns items, whole) (omega arith)))
+    ∙ take-append-drop columns items
+
+grid_of-items_of : {A : Type 0} (columns rows : ℕ) (grid : List (List A)) → HaveColumns columns grid → length grid ≡ rows → grid_of columns rows (items_of grid) ≡ grid
+unfolding grid_of
+grid_of-items_of columns zero [] all long = refl
+grid_of-items_of columns zero (row ∷ grid) all long = absurd (omega (arith, long))
+grid_of-items_of columns (suc rows) [] all long = absurd (omega (arith, long))
+grid_of-items_of {A} columns (suc rows) (row ∷ grid) all long =
+    ap₂ (λ (first : List A) (others : List (List A)). first ∷ others) (take_at row (items_of grid) columns all.0)
+    (ap (grid_of columns rows) (drop_at row (items_of grid) columns all.0) ∙ grid_of-items_of columns rows grid all.1 (omega (arith, long)))
+
 -- ---- the blocks give the sub-band back
 
--- a place in a line is a place in its group of 32
-in_block : (n x : ℕ) → x < n → x % 32 < group_length n 32 (x / 32)
-in_block n x inside = omega arith
+length-group : {A : Type 0} (size k n : ℕ) (xs : List A) → length xs ≡ n → length (take (group_length n size k) (drop (size * k) xs)) ≡ group_length n size k
+length-group size k n xs e = length-take-le (group_length n size k) (drop (size * k) xs) (rw (length-drop (size * k) xs, e) (omega arith))
 
-group_fits : (n g : ℕ) → 32 * g ≤ n → 32 * g + group_length n 32 g ≤ n
-group_fits n g inside = omega arith
+HaveColumns-groups : {A : Type 0} (size k n : ℕ) (rows : List (List A)) → HaveColumns n rows → HaveColumns (group_length n size k) (map (λ row. take (group_length n size k) (drop (size * k) row)) rows)
+HaveColumns-groups size k n [] all = tt
+HaveColumns-groups size k n (row ∷ rows) all = (length-group size k n row all.0, HaveColumns-groups size k n rows all.1)
 
-place_again : (x : ℕ) → 32 * (x / 32) + x % 32 ≡ x
-place_again x = omega arith
+-- a part of a grid is made again of its items
+part_again : {A : Type 0} (size columns rows x y : ℕ) (grid : List (List A)) → HaveColumns columns grid → length grid ≡ rows
+    → grid_of (group_length columns size x) (group_length rows size y) (items_of (part_at size columns rows grid x y)) ≡ part_at size columns rows grid x y
+part_again {A} size columns rows x y grid all long =
+    let high : List (List A) = take (group_length rows size y) (drop (size * y) grid) in
+    grid_of-items_of (group_length columns size x) (group_length rows size y) (part_at size columns rows grid x y)
+    (HaveColumns-groups size x columns high (HaveColumns-take columns (group_length rows size y) (drop (size * y) grid) (HaveColumns-drop columns (size * y) grid all)))
+    (length-map high (λ row. take (group_length columns size x) (drop (size * x) row)) ∙ length-group size y rows grid long)
 
-item_of_block : (shape : Shape) (band : Band) (values : List ℤ) (x y : ℕ) → length values ≡ band_rows shape band * band_columns shape band → x < band_columns shape band → y < band_rows shape band
-    → get_or (block_of shape band values (x / 32) (y / 32)).values (y % 32 * group_length (band_columns shape band) 32 (x / 32) + x % 32) (pos 0) ≡ get_or values (y * band_columns shape band + x) (pos 0)
+-- no columns of parts
+no_parts : {A : Type 0} (ys : List ℕ) → flat_map (side_by_side {A = A}) (map (λ y. []) ys) ≡ []
+no_parts [] = refl
+no_parts (y ∷ ys) = no_parts ys
+
+parts_give : {A : Type 0} (columns rows : ℕ) (values : List A) → length values ≡ columns * rows
+    → items_of (of_parts (grid_with (div_ceil columns 32) (div_ceil rows 32) (part_at 32 columns rows (grid_of columns rows values)))) ≡ values
+unfolding of_parts
+parts_give zero rows [] whole = ap items_of (no_parts (range_with_len 0 (div_ceil rows 32)))
+parts_give zero rows (v ∷ values) whole = absurd (omega (arith, whole))
+parts_give (suc columns) rows values whole =
+    ap items_of (of_parts-part_at 32 (suc columns) rows (grid_of (suc columns) rows values) (omega arith) (omega arith) (HaveColumns-grid_of (suc columns) rows values whole) (length-grid_of (suc columns) rows values))
+    ∙ items_of-grid_of (suc columns) rows values whole
+
+pub blocks_give-values : (shape : Shape) (band : Band) (values : List ℤ) → length values ≡ band_length shape band
+    → items_of (of_parts (with_places (block_grid shape band) (blocks_of shape band values))) ≡ values
 unfolding block_of
-item_of_block shape band values x y whole wide high =
+blocks_give-values shape band values whole =
     let columns : ℕ = band_columns shape band in
     let rows : ℕ = band_rows shape band in
-    let width : ℕ = group_length columns 32 (x / 32) in
-    let height : ℕ = group_length rows 32 (y / 32) in
-    let grid : List (List ℤ) = grid_of columns rows values in
-    let any : All (λ (v : ℤ). ⊤) values = All-each (λ v. ⊤) (λ v. tt) values in
-    let whole_grid = IsGridOf-grid_of (λ (v : ℤ). ⊤) columns rows values whole any in
-    let right : 32 * (x / 32) + width ≤ columns = group_fits columns (x / 32) (omega arith) in
-    let low : 32 * (y / 32) + height ≤ rows = group_fits rows (y / 32) (omega arith) in
-    let part = IsGridOf-part_of (λ (v : ℤ). ⊤) (32 * (x / 32)) (32 * (y / 32)) width height columns rows grid right low whole_grid in
-    let in_column : x % 32 < width = in_block columns x wide in
-    let in_row : y % 32 < height = in_block rows y high in
-    get_or-items_of width (part_of (32 * (x / 32)) (32 * (y / 32)) width height grid) (x % 32) (y % 32) (pos 0)
-    (All-weaker (IsRowOf (λ (v : ℤ). ⊤) width) (λ row. length row ≡ width) (λ row r. r.size) (part_of (32 * (x / 32)) (32 * (y / 32)) width height grid) part.each)
-    (rw part.size in_row) in_column
-    ∙ get_or-part_of (32 * (x / 32)) (32 * (y / 32)) width height grid (x % 32) (y % 32) (pos 0) in_column in_row (rw whole_grid.size low)
-    ∙ ap₂ (λ (i j : ℕ). get_or (get_or grid j []) i (pos 0)) (place_again x) (place_again y)
-    ∙ get_or-grid_of columns rows values x y (pos 0) wide high
-
-coefficient_at-is : (shape : Shape) (band : Band) (values : List ℤ) (x y : ℕ) → length values ≡ band_rows shape band * band_columns shape band → x < band_columns shape band → y < band_rows shape band
-    → coefficient_at shape band (grid_of_blocks shape band values) y x ≡ get_or values (y * band_columns shape band + x) (pos 0)
-coefficient_at-is shape band values x y whole wide high =
-    let row : get_or (grid_of_blocks shape band values) (y / 32) [] ≡ row_of_blocks shape band values (y / 32) =
-    get_or-map-range_with_len (row_of_blocks shape band values) 0 (block_rows shape band) (y / 32) (y / 32) [] (group_counted (band_rows shape band) y high) (omega arith) in
-    let block : get_or (row_of_blocks shape band values (y / 32)) (x / 32) [] ≡ (block_of shape band values (x / 32) (y / 32)).values =
-    get_or-map-range_with_len (λ bx. (block_of shape band values bx (y / 32)).values) 0 (block_columns shape band) (x / 32) (x / 32) [] (group_counted (band_columns shape band) x wide) (omega arith) in
-    ap (λ (v : List ℤ). get_or v (y % 32 * group_length (band_columns shape band) 32 (x / 32) + x % 32) (pos 0)) (ap (λ (r : List (List ℤ)). get_or r (x / 32) []) row ∙ block)
-    ∙ item_of_block shape band values x y whole wide high
-  where
-    group_counted : (n x : ℕ) → x < n → x / 32 < div_ceil n 32
-    group_counted n x inside = omega arith
-
-pub coefficients_of_blocks-is : (shape : Shape) (band : Band) (values : List ℤ) → length values ≡ band_length shape band
-    → coefficients_of_blocks shape band (grid_of_blocks shape band values) ≡ values
-coefficients_of_blocks-is shape band values whole =
-    let size : length values ≡ band_rows shape band * band_columns shape band = omega arith in
-    rows_again (band_columns shape band) (coefficient_at shape band (grid_of_blocks shape band values)) values (pos 0) 0 (band_rows shape band) (omega arith)
-    (λ x y wide high. coefficient_at-is shape band values x y size wide (omega arith))
-    ∙ ap (λ (n : ℕ). take (band_rows shape band * band_columns shape band) (drop n values)) none
-    ∙ take_all (band_rows shape band * band_columns shape band) values (omega arith)
-  where
-    none : 0 * band_columns shape band ≡ 0
-    none = omega arith
+    let all = HaveColumns-grid_of columns rows values whole in
+    ap (λ (parts : List (List (List (List ℤ)))). items_of (of_parts parts))
+    (with_places-grid_with (block_grid shape band) (block_columns shape band) (block_rows shape band) (block_of shape band values)
+    ∙ grid_with-same (block_columns shape band) (block_rows shape band) (λ x y. block_grid shape band x y (block_of shape band values x y)) (part_at 32 columns rows (grid_of columns rows values))
+    (λ x y wide high. part_again 32 columns rows x y (grid_of columns rows values) all (length-grid_of columns rows values)))
+    ∙ parts_give columns rows values whole
 
 -- ---- and where a packet has them
 

@@ -1,29 +1,33 @@
 -- A reader finds each code-block of a sub-band where the writer put it.
-use Rattle.std.proofs.Common.{◌≡◌, ℕ, ◌+◌, ◌*◌, ◌/◌, ◌%◌, ◌<◌, ◌≤◌, ◌⊎◌, refl, sym, ap, ap₂, subst, ◌∙◌, arith, Bool, true, false, cond, List, [], ◌∷◌, length, map, get_or, All, ℤ, Some, find, zip, sum_by, inl, inr}
-use Rattle.std.specs.Prelude.{◌==◌, ◌&&◌, if◌then◌else◌, nat_lt}
-use Rattle.std.specs.List.{range_with_len, AllByRecursion}
+use Rattle.std.proofs.Common.{◌≡◌, ℕ, zero, suc, ◌+◌, ◌-◌, ◌*◌, ◌/◌, ◌%◌, ◌^◌, ◌<◌, ◌≤◌, ◌⊎◌, min, refl, sym, ap, ap₂, subst, ◌∙◌, arith, Bool, true, false, cond, List, [], ◌∷◌, ◌++◌, length, map, take, drop, get_or, All, ℤ, Some, find, zip, sum_by, inl, inr, length-drop}
+use Rattle.std.specs.Prelude.{◌==◌, ◌&&◌, nat_lt}
+use Rattle.std.specs.Int.{div_ceil}
+use Rattle.std.specs.List.{flat_map, range_with_len, AllByRecursion}
 use Rattle.std.proofs.lemmas.Bool.{cases_Bool, eqb-true, eq-eqb, and_parts, and_from, ltb-true, false≢true, cond-true, cond-false}
-use Rattle.std.proofs.lemmas.Nat.{div-mul-add, mod-mul-add, mul-add-lt}
-use Rattle.std.proofs.lemmas.List.{get_or-map}
+use Rattle.std.proofs.lemmas.Nat.{mul-add-lt}
+use Rattle.std.proofs.lemmas.List.{get_or-map, take_min, take_all, drop-drop, drop_all, take-append-drop}
 use Rattle.std.proofs.lemmas.List.Sums.{sum_by-le, get_or-le-sum_by, AllPass-from_list_all}
 use Rattle.std.proofs.lemmas.List.FromFn.{length-map-range_with_len, get_or-map-range_with_len}
 use Rattle.std.proofs.lemmas.List.Elements.{All-nil, All-cons, All-weaker, All-from_recursion}
 use Rattle.codec_terms.specs.declared.picture.Shape.{Shape}
 use Rattle.codec_terms.specs.declared.picture.Band.{Band}
+use Rattle.codec_terms.specs.declared.packet.PacketBlock.{PacketBlock}
 use Rattle.codec_terms.specs.declared.packet.PacketBand.{PacketBand}
+use Rattle.codec_terms.specs.Grid.{grid_of, grid_with, beside, side_by_side, of_parts}
 use Rattle.codec_terms.specs.Bands.{all_bands, component_bands, resolution_bands, band_values, lowest_plane}
-use Rattle.codec_terms.specs.Precincts.{Precinct, precinct_at, precinct_columns, precinct_rows, resolution, resolution_precincts, all_precincts, packet_order, group_length, block_columns, block_rows, blocks_at, blocks_in, BlockArea}
-use Rattle.codec_terms.specs.Codestream.{block_of, packet_block, packet_band, not_included}
-use Rattle.codec_terms.specs.StreamReading.{is_precinct, no_band, place_in_packet, band_in, packet_band_of, block_in, read_block}
+use Rattle.codec_terms.specs.Precincts.{Precinct, precinct_at, precinct_exponent, resolution_columns, precinct_columns, precinct_rows, precinct_number, resolution, resolution_precincts, all_precincts, packet_order, group_length, part_at, block_columns, block_rows, BlockArea}
+use Rattle.codec_terms.specs.Codestream.{block_of, block_places, placed_block, packet_block, packet_band}
+use Rattle.codec_terms.specs.StreamReading.{is_precinct, no_band, place_in_packet, band_in, packet_band_of, precinct_blocks, band_blocks}
 use Rattle.codec_terms.proofs.OrderLaws.{sum_by-packet_order}
-use Rattle.codec_laws.specs.Places.{bands_of_packet, packets_of}
+use Rattle.codec_terms.proofs.GridLaws.{blocks_in-precinct_number, grid_of-block_places}
+use Rattle.codec_laws.specs.Places.{bands_of_packet, packets_of, packet_blocks}
 use Rattle.codec_laws.proofs.Lists.{All-pieces, All-range}
-use Rattle.codec_laws.proofs.BlockPlaces.{all_have_precincts, get_or-packet_band}
+use Rattle.codec_laws.proofs.BlockPlaces.{all_have_precincts, grid_with-same, HaveColumns, HaveColumns-drop, HaveColumns-take}
 
 -- ---- a sub-band's place among those of its resolution
 
 place : Band → ℕ
-place band = if resolution band == 0 then 0 else place_in_packet band
+place band = place_in_packet band.kind
 
 places_counted : All (λ band. (resolution band < 6) × (place band < length (resolution_bands band.component (resolution band)))) all_bands
 unfolding all_bands component_bands resolution_bands place
@@ -111,46 +115,127 @@ packet_band_of-is shape q cut band number small counted itself inside = elim (fo
       let parts = and_parts (f.precinct.resolution == resolution band) (f.precinct.number == number) f.is in
       let bands : bands_of_packet shape q cut band.component f.precinct ≡ map (packet_band shape q cut number) (resolution_bands band.component (resolution band)) =
       ap₂ (λ (r n : ℕ). map (packet_band shape q cut n) (resolution_bands band.component r)) (eqb-true f.precinct.resolution (resolution band) parts.0) (eqb-true f.precinct.number number parts.1) in
-      ap (band_in band) f.found
+      ap (band_in band.kind) f.found
       ∙ ap (λ (bs : List PacketBand). get_or bs (place band) no_band) bands
       ∙ get_or-map (packet_band shape q cut number) (resolution_bands band.component (resolution band)) (place band) band no_band counted
       ∙ ap (packet_band shape q cut number) itself)
 ]
 
--- ---- a block of it
+-- ---- precincts' parts, put together, where there may be more precincts than have a part of the sub-band; the lemmas of
+-- codec_terms are of as many parts as there have to be
 
-place_again : (x : ℕ) → 4 * (x / 4) + x % 4 ≡ x
-place_again x = omega arith
+-- one list: a group of it and what is behind
+take-group : {A : Type 0} (size k n : ℕ) (xs : List A) → length xs ≡ n → take (group_length n size k) (drop (size * k) xs) ≡ take size (drop (size * k) xs)
+take-group size k n xs e =
+    let long : group_length n size k ≡ min size (length (drop (size * k) xs)) = rw (length-drop, e) refl in
+    ap (λ (m : ℕ). take m (drop (size * k) xs)) long ∙ take_min size (drop (size * k) xs)
 
-in_group : (n x : ℕ) → x < n → x % 4 < group_length n 4 (x / 4)
-in_group n x inside = omega arith
+next_group : (size k : ℕ) → size * k + size ≡ size * (k + 1)
+next_group size k = omega arith
 
--- its place in its precinct, whose number is that of row and column
-block_of_area : (shape : Shape) (q : List ℤ) (cut : ℕ) (band : Band) (number bx by : ℕ) → blocks_in shape band number ≡ blocks_at shape band (bx / 4) (by / 4) → bx < block_columns shape band → by < block_rows shape band
-    → block_in (packet_band shape q cut number band) (bx % 4) (by % 4) ≡ packet_block band (lowest_plane cut band) (block_of shape band (band_values shape q band) bx by)
-unfolding packet_band
-block_of_area shape q cut band number bx by area wide high =
-    get_or-packet_band shape q cut number band (bx % 4) (by % 4) not_included
-    (subst (λ (a : BlockArea). bx % 4 < a.columns) (sym area) (in_group (block_columns shape band) bx wide))
-    (subst (λ (a : BlockArea). by % 4 < a.rows) (sym area) (in_group (block_rows shape band) by high))
-    ∙ ap₂ (λ (x y : ℕ). packet_block band (lowest_plane cut band) (block_of shape band (band_values shape q band) x y))
-    (ap (λ (a : BlockArea). a.x + bx % 4) area ∙ place_again bx) (ap (λ (a : BlockArea). a.y + by % 4) area ∙ place_again by)
+group_and_rest : {A : Type 0} (size k n : ℕ) (xs : List A) → length xs ≡ n → take (group_length n size k) (drop (size * k) xs) ++ drop (size * (k + 1)) xs ≡ drop (size * k) xs
+group_and_rest size k n xs e =
+    let rest : drop (size * (k + 1)) xs ≡ drop size (drop (size * k) xs) = ap (λ (m : ℕ). drop m xs) (sym (next_group size k)) ∙ sym (drop-drop size (size * k) xs) in
+    rw (take-group size k n xs e, rest) (take-append-drop size (drop (size * k) xs))
 
-pub read_block-is : (shape : Shape) (q : List ℤ) (cut : ℕ)
-    → All (λ band. (bx by : ℕ) → bx < block_columns shape band → by < block_rows shape band
-    → read_block shape (packets_of shape q cut band.component) band bx by ≡ packet_block band (lowest_plane cut band) (block_of shape band (band_values shape q band) bx by)) all_bands
-unfolding read_block
-read_block-is shape q cut = λ k d inside bx by wide high.
+last_group : {A : Type 0} (size k n : ℕ) (xs : List A) → length xs ≡ n → n ≤ size * (k + 1) → take (group_length n size k) (drop (size * k) xs) ≡ drop (size * k) xs
+last_group size k n xs e all =
+    take-group size k n xs e ∙ take_all size (drop (size * k) xs) (rw length-drop (omega (arith, next_group size k)))
+
+beside-map : {A B : Type 0} (f h : List B → List A) (rows : List (List B)) → beside (map f rows) (map h rows) ≡ map (λ row. f row ++ h row) rows
+beside-map f h [] = refl
+beside-map f h (row ∷ rows) = ap (λ (others : List (List _)). (f row ++ h row) ∷ others) (beside-map f h rows)
+
+groups_and_rest : {A : Type 0} (size k n : ℕ) (rows : List (List A)) → HaveColumns n rows
+    → map (λ row. take (group_length n size k) (drop (size * k) row) ++ drop (size * (k + 1)) row) rows ≡ map (drop (size * k)) rows
+groups_and_rest size k n [] all = refl
+groups_and_rest size k n (row ∷ rows) all = ap₂ (λ (xs : List _) (others : List (List _)). xs ∷ others) (group_and_rest size k n row all.0) (groups_and_rest size k n rows all.1)
+
+last_groups : {A : Type 0} (size k n : ℕ) (rows : List (List A)) → HaveColumns n rows → n ≤ size * (k + 1)
+    → map (λ row. take (group_length n size k) (drop (size * k) row)) rows ≡ map (drop (size * k)) rows
+last_groups size k n [] all end = refl
+last_groups size k n (row ∷ rows) all end = ap₂ (λ (xs : List _) (others : List (List _)). xs ∷ others) (last_group size k n row all.0 end) (last_groups size k n rows all.1 end)
+
+beside-nil : {A : Type 0} (left : List (List A)) → beside left [] ≡ left
+beside-nil [] = refl
+beside-nil (row ∷ left) = refl
+
+row_of_parts : {A : Type 0} (size k m n : ℕ) (rows : List (List A)) → HaveColumns n rows → n ≤ size * (k + suc m)
+    → side_by_side (map (λ x. map (λ row. take (group_length n size x) (drop (size * x) row)) rows) (range_with_len k (suc m))) ≡ map (drop (size * k)) rows
+row_of_parts size k zero n rows all end = beside-nil _ ∙ last_groups size k n rows all end
+row_of_parts size k (suc m) n rows all end =
+    ap (beside _) (row_of_parts size (k + 1) m n rows all (omega arith))
+    ∙ (beside-map _ _ rows ∙ groups_and_rest size k n rows all)
+
+map-drop_none : {A : Type 0} (n : ℕ) (rows : List (List A)) → n ≡ 0 → map (drop n) rows ≡ rows
+map-drop_none zero [] none = refl
+map-drop_none zero (row ∷ rows) none = ap (λ (others : List (List _)). row ∷ others) (map-drop_none zero rows refl)
+map-drop_none (suc n) rows none = absurd (omega arith)
+
+drop_none : {A : Type 0} (n : ℕ) (xs : List A) → n ≡ 0 → drop n xs ≡ xs
+drop_none zero xs none = refl
+drop_none (suc n) xs none = absurd (omega arith)
+
+rows_of_parts : {A : Type 0} (size k m n columns across : ℕ) (grid : List (List A)) → HaveColumns columns grid → length grid ≡ n → n ≤ size * (k + m) → columns ≤ size * suc across
+    → flat_map side_by_side (map (λ y. map (λ x. part_at size columns n grid x y) (range_with_len 0 (suc across))) (range_with_len k m)) ≡ drop (size * k) grid
+rows_of_parts size k zero n columns across grid all long end wide = sym (drop_all (size * k) grid (omega arith))
+rows_of_parts {A} size k (suc m) n columns across grid all long end wide =
+    let rows : List (List A) = take (group_length n size k) (drop (size * k) grid) in
+    let whole = row_of_parts size 0 across columns rows (HaveColumns-take columns (group_length n size k) (drop (size * k) grid) (HaveColumns-drop columns (size * k) grid all)) (omega arith) in
+    ap₂ (λ (xs ys : List (List A)). xs ++ ys) (whole ∙ map-drop_none (size * 0) rows (omega arith)) (rows_of_parts size (k + 1) m n columns across grid all long (omega arith) wide)
+    ∙ group_and_rest size k n grid long
+
+enough_parts : {A : Type 0} (size columns rows across down : ℕ) (grid : List (List A)) → 0 < across → HaveColumns columns grid → length grid ≡ rows → columns ≤ size * across → rows ≤ size * down
+    → of_parts (grid_with across down (part_at size columns rows grid)) ≡ grid
+unfolding of_parts
+enough_parts size columns rows zero down grid some all long wide high = absurd (omega (arith, some))
+enough_parts size columns rows (suc across) down grid some all long wide high =
+    rows_of_parts size 0 down rows columns across grid all long (omega arith) wide ∙ drop_none (size * 0) grid (omega arith)
+
+-- ---- the sub-band's blocks
+
+HaveColumns-grid_with : {A : Type 0} (f : ℕ → ℕ → A) (columns : ℕ) (ys : List ℕ) → HaveColumns columns (map (λ y. map (λ x. f x y) (range_with_len 0 columns)) ys)
+HaveColumns-grid_with f columns [] = tt
+HaveColumns-grid_with f columns (y ∷ ys) = (length-map-range_with_len (λ x. f x y) 0 columns, HaveColumns-grid_with f columns ys)
+
+-- some things make some groups
+some_of : (n size q r m : ℕ) → n ≡ size * q + r → m ≡ min 1 r → 0 < n → 0 < q + m
+some_of n size zero r m whole more some = omega (arith, whole, more, some)
+some_of n size (suc q) r m whole more some = omega arith
+
+some_groups : (n size : ℕ) → 0 < n → 0 < div_ceil n size
+some_groups n size some = some_of n size (n / size) (n % size) (min 1 (n % size)) (omega arith) refl some
+
+some_precincts : (shape : Shape) (r : ℕ) → 0 < shape.width → 0 < precinct_columns shape r
+some_precincts shape r some = some_groups (resolution_columns shape r) (2 ^ precinct_exponent r) (some_groups shape.width (2 ^ (5 - r)) some)
+
+precinct_blocks-are : (shape : Shape) (q : List ℤ) (cut : ℕ) (band : Band) (px py : ℕ) → resolution band < 6 → place band < length (resolution_bands band.component (resolution band))
+    → get_or (resolution_bands band.component (resolution band)) (place band) band ≡ band → px < precinct_columns shape (resolution band) → py < precinct_rows shape (resolution band)
+    → precinct_blocks shape (packets_of shape q cut band.component) band px py ≡ part_at 4 (block_columns shape band) (block_rows shape band) (packet_blocks shape q cut band) px py
+unfolding precinct_blocks packet_band
+precinct_blocks-are shape q cut band px py small counted itself wide high =
+    let number : ℕ = precinct_number shape (resolution band) px py in
+    let put : ℕ × ℕ → PacketBlock = placed_block shape band (band_values shape q band) (lowest_plane cut band) in
+    ap (λ (part : PacketBand). grid_of part.columns part.rows part.blocks)
+    (packet_band_of-is shape q cut band number small counted itself (mul-add-lt py (precinct_columns shape (resolution band)) px (precinct_rows shape (resolution band)) high wide))
+    ∙ ap (λ (area : BlockArea). grid_of area.columns area.rows (map put (block_places area))) (blocks_in-precinct_number shape band px py wide)
+    ∙ grid_of-block_places (λ x y. packet_block band (lowest_plane cut band) (block_of shape band (band_values shape q band) x y)) shape band px py
+
+pub band_blocks-are : (shape : Shape) (q : List ℤ) (cut : ℕ) → 0 < shape.width
+    → All (λ band. band_blocks shape (packets_of shape q cut band.component) band ≡ packet_blocks shape q cut band) all_bands
+unfolding band_blocks
+band_blocks-are shape q cut some = λ k d inside.
     let band : Band = get_or all_bands k d in
     let counted = places_counted k d inside in
     let itself = All-from_recursion (λ band. get_or (resolution_bands band.component (resolution band)) (place band) band ≡ band) all_bands at_places k d inside in
+    let has = all_have_precincts shape k d inside in
+    let columns : ℕ = block_columns shape band in
+    let rows : ℕ = block_rows shape band in
     let across : ℕ = precinct_columns shape (resolution band) in
-    let number : ℕ = by / 4 * across + bx / 4 in
-    let h = all_have_precincts shape k d inside in
-    let column : bx / 4 < across = omega (arith, h.in_columns) in
-    let row : by / 4 < precinct_rows shape (resolution band) = omega (arith, h.in_rows) in
-    let area : blocks_in shape band number ≡ blocks_at shape band (bx / 4) (by / 4) =
-    ap₂ (λ (x y : ℕ). blocks_at shape band x y) (mod-mul-add (by / 4) across (bx / 4) column) (div-mul-add (by / 4) across (bx / 4) column) in
-    ap (λ (b : PacketBand). block_in b (bx % 4) (by % 4))
-    (packet_band_of-is shape q cut band number counted.0 counted.1 itself (mul-add-lt (by / 4) across (bx / 4) (precinct_rows shape (resolution band)) row column))
-    ∙ block_of_area shape q cut band number bx by area wide high
+    let down : ℕ = precinct_rows shape (resolution band) in
+    let f : ℕ → ℕ → PacketBlock = λ x y. packet_block band (lowest_plane cut band) (block_of shape band (band_values shape q band) x y) in
+    ap of_parts (grid_with-same across down (precinct_blocks shape (packets_of shape q cut band.component) band) (part_at 4 columns rows (packet_blocks shape q cut band))
+    (λ px py wide high. precinct_blocks-are shape q cut band px py counted.0 counted.1 itself wide high))
+    ∙ enough_parts 4 columns rows across down (packet_blocks shape q cut band) (some_precincts shape (resolution band) some)
+    (HaveColumns-grid_with f columns (range_with_len 0 rows)) (length-map-range_with_len (λ y. map (λ x. f x y) (range_with_len 0 columns)) 0 rows)
+    has.in_columns has.in_rows

@@ -1,12 +1,14 @@
 -- Words of laws on code-blocks' places.
 use Rattle.std.specs.Prelude.{◌≡◌, ◌<◌, ◌≤◌, ℕ, ◌+◌, ◌*◌, List, ℤ, map}
-use Rattle.std.specs.List.{range_with_len}
 use Rattle.codec_terms.specs.declared.picture.Shape.{Shape}
 use Rattle.codec_terms.specs.declared.picture.Band.{Band}
+use Rattle.codec_terms.specs.declared.packet.PacketBlock.{PacketBlock}
 use Rattle.codec_terms.specs.declared.packet.PacketBand.{PacketBand}
-use Rattle.codec_terms.specs.Bands.{resolution_bands}
-use Rattle.codec_terms.specs.Precincts.{BlockArea, precinct_columns, precinct_rows, resolution, blocks_in, block_columns, block_rows, Precinct, packet_order}
-use Rattle.codec_terms.specs.Codestream.{block_of, packet_band}
+use Rattle.codec_terms.specs.Grid.{grid_of, grid_with}
+use Rattle.codec_terms.specs.Bands.{resolution_bands, band_values, lowest_plane}
+use Rattle.codec_terms.specs.BlockDecisions.{Block}
+use Rattle.codec_terms.specs.Precincts.{BlockArea, precinct_columns, precinct_rows, resolution, blocks_in, block_columns, block_rows, block_width, block_height, Precinct, packet_order}
+use Rattle.codec_terms.specs.Codestream.{block_of, packet_block, packet_band}
 
 -- block (x, y) of a sub-band is one of an area's
 pub record IsInArea (area : BlockArea) (x y : ℕ) : Type 0 where
@@ -23,13 +25,19 @@ pub record OnePrecinct (shape : Shape) (band : Band) (x y : ℕ) : Type 0 where
   pub alone : (other : ℕ) → other < precinct_columns shape (resolution band) * precinct_rows shape (resolution band)
       → IsInArea (blocks_in shape band other) x y → other ≡ number
 
--- the values of all code-blocks of a sub-band that has these values, as a grid of blocks
-abbrev pub row_of_blocks : Shape → Band → List ℤ → ℕ → List (List ℤ)
-row_of_blocks shape band values by =
-    map (λ bx. (block_of shape band values bx by).values) (range_with_len 0 (block_columns shape band))
+-- the code-blocks of a sub-band that has these values
+abbrev pub blocks_of : Shape → Band → List ℤ → List (List Block)
+blocks_of shape band values = grid_with (block_columns shape band) (block_rows shape band) (block_of shape band values)
 
-abbrev pub grid_of_blocks : Shape → Band → List ℤ → List (List (List ℤ))
-grid_of_blocks shape band values = map (row_of_blocks shape band values) (range_with_len 0 (block_rows shape band))
+-- the values of block (bx, by) in its columns and rows
+abbrev pub block_grid : Shape → Band → ℕ → ℕ → Block → List (List ℤ)
+block_grid shape band bx by block = grid_of (block_width shape band bx) (block_height shape band by) block.values
+
+-- what packets have of a sub-band's code-blocks at a cut
+abbrev pub packet_blocks : Shape → List ℤ → ℕ → Band → List (List PacketBlock)
+packet_blocks shape q cut band =
+    grid_with (block_columns shape band) (block_rows shape band)
+    (λ x y. packet_block band (lowest_plane cut band) (block_of shape band (band_values shape q band) x y))
 
 -- what the packets of a component have of each sub-band, packet by packet
 abbrev pub bands_of_packet : Shape → List ℤ → ℕ → ℕ → Precinct → List PacketBand

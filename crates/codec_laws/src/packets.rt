@@ -11,10 +11,11 @@ ghost use Rattle.codec_terms.specs.TagTree.{Tree, FoundTree, new_node, new_tree,
 ghost use Rattle.codec_terms.specs.PacketHeader.{pass_bits, length_bits, packed, ends_with_ff};
 ghost use Rattle.codec_terms.specs.PacketReading.{BitPlace, bit_read, number_read, pass_count_read, size_read, header_end};
 ghost use Rattle.codec_terms.specs.Codestream.{block_of, packet_block, packet_band, precinct_packet};
-ghost use Rattle.codec_terms.specs.StreamReading.{read_block, coefficients_of_blocks};
+ghost use Rattle.codec_terms.specs.Grid.{items_of, with_places, of_parts};
+ghost use Rattle.codec_terms.specs.StreamReading.{band_blocks};
 ghost use Rattle.codec_laws.specs.BitsAhead.{IsAhead, start_at, Gives};
 ghost use Rattle.codec_laws.specs.Codewords.{HasNoMarker};
-ghost use Rattle.codec_laws.specs.Places.{OnePrecinct, grid_of_blocks, packets_of};
+ghost use Rattle.codec_laws.specs.Places.{OnePrecinct, blocks_of, block_grid, packet_blocks, packets_of};
 ghost use Rattle.codec_laws.specs.TreeReading.{AreSameTrees, HasLeaf, LeafIsRead, IsTold, leaf_of, known_value};
 
 /// A codeword doesn't end with FF, and no marker begins within codewords that stand behind one another, within a
@@ -27,21 +28,21 @@ pub fn codeword_laws()
         → HasNoMarker (precinct_packet shape q cut component precinct) }
 {}
 
-/// The code-blocks of a sub-band's values give the values back.
+/// The code-blocks of a sub-band's values, put together as a reader does, give the values back.
 pub fn block_laws()
     ensures { (shape : Shape) (band : Band) (values : List ℤ) → length values ≡ band_length shape band
-        → coefficients_of_blocks shape band (grid_of_blocks shape band values) ≡ values }
+        → items_of (of_parts (with_places (block_grid shape band) (blocks_of shape band values))) ≡ values }
 {}
 
-/// Each code-block of a picture's sub-band stands in exactly one precinct, and a reader finds it in that one's packet.
+/// Each code-block of a picture's sub-band stands in exactly one precinct, and a reader finds all of a sub-band's in
+/// the packets, each at its own place.
 pub fn precinct_laws()
     ensures one { (shape : Shape)
         → All (λ band. (x y : ℕ) → x < block_columns shape band → y < block_rows shape band
         → OnePrecinct shape band x y) all_bands }
-    ensures found { (shape : Shape) (q : List ℤ) (cut : ℕ)
-        → All (λ band. (x y : ℕ) → x < block_columns shape band → y < block_rows shape band
-        → read_block shape (packets_of shape q cut band.component) band x y
-        ≡ packet_block band (lowest_plane cut band) (block_of shape band (band_values shape q band) x y)) all_bands }
+    ensures found { (shape : Shape) (q : List ℤ) (cut : ℕ) → 0 < shape.width
+        → All (λ band. band_blocks shape (packets_of shape q cut band.component) band
+        ≡ packet_blocks shape q cut band) all_bands }
 {}
 
 /// A packet's part of a sub-band has as many code-blocks as columns times rows, and each of its precinct's code-blocks
