@@ -1,16 +1,15 @@
 -- The contexts of decisions are those that the arithmetic coder has.
 use Rattle.std.proofs.Common.{ℕ, zero, suc, ◌+◌, ◌-◌, ◌/◌, ◌%◌, ◌<◌, arith, Bool, true, false, List, All, ℤ, pos, negsuc, drop, slice_index, position, Option, Some, None}
 use Rattle.std.specs.Prelude.{◌==◌}
-use Rattle.std.specs.List.{flat_map}
 use Rattle.std.proofs.lemmas.Bool.{cond_both}
-use Rattle.std.proofs.lemmas.List.Elements.{All-nil, All-append, All-push}
+use Rattle.std.proofs.lemmas.List.Elements.{All-nil, All-push}
 use Rattle.codec_terms.specs.declared.picture.BandKind.{BandKind}
 use Rattle.codec_terms.specs.declared.picture.BandKind.TheVariants.{LL, HL, LH, HH}
 use Rattle.codec_terms.specs.Contexts.{zero_context_low, zero_context_high, zero_context, zero_context_at, horizontal, vertical, diagonal, horizontal_sign, vertical_sign, sign_context, sign_context_at, refine_context, refine_context_at, Column, scan}
 use Rattle.codec_terms.specs.BlockDecisions.{Block, Walk, negatives, plane_bit, zero_context_of, is_reached, is_refined, is_first, is_left, is_run, with_decision, sign_told, bit_told, propagated, refined, cleaned, run_end, column_propagated, column_refined, column_cleaned, propagation, refinement, cleanup, decisions, plane_count, visited_at, run_told, next_told, nothing_told, pass_told, passes_told}
 use Rattle.codec_terms.specs.Passes.{Pass, Propagation, Refinement, Cleanup, passes_down_to}
 use Rattle.codec_laws.specs.Contexts.{IsContext, InSign, InRefinement}
-use Rattle.codec_laws.proofs.Lists.{fold_keeps, All-flat_map, All-each}
+use Rattle.codec_laws.proofs.Lists.{fold_keeps}
 
 zero_context_low-below : (h v d : ℕ) → zero_context_low h v d < 9
 zero_context_low-below (suc (suc h)) v d = omega arith

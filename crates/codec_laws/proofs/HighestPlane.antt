@@ -9,7 +9,7 @@ use Rattle.std.proofs.lemmas.List.Folds.{fold_stays}
 use Rattle.std.proofs.lemmas.List.Elements.{All-nil, All-cons, All-map}
 use Rattle.codec_terms.specs.declared.picture.BandKind.{BandKind}
 use Rattle.codec_terms.specs.declared.picture.BandKind.TheVariants.{LL, HL, LH, HH}
-use Rattle.codec_terms.specs.Contexts.{is_in, horizontal, vertical, diagonal, zero_context, zero_context_at, scan, contains}
+use Rattle.codec_terms.specs.Contexts.{is_in, horizontal, vertical, diagonal, zero_context, zero_context_at, scan}
 use Rattle.codec_terms.specs.BlockDecisions.{Block, Walk, is_significant, is_visited, zero_context_of, bit_told, is_reached, visited_at, propagated, is_refined, refined, column_propagated, column_refined, propagation, refinement, cleanup, is_significant_above, plane_start, plane_count}
 use Rattle.codec_laws.proofs.Planes.{greatest-below, within-bit_length}
 

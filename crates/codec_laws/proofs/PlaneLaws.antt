@@ -4,7 +4,7 @@ use Rattle.std.proofs.Common.{◌≡◌, ℕ, ◌+◌, ◌-◌, zero, suc, refl,
 use Rattle.std.specs.Prelude.{fold}
 use Rattle.codec_terms.specs.Mq.{Decision}
 use Rattle.codec_terms.specs.Passes.{Propagation, Refinement, Cleanup, further_passes, passes_down_to}
-use Rattle.codec_terms.specs.BlockDecisions.{Block, Walk, propagation, refinement, no_samples, cleanup, pass_told, next_told, nothing_told, passes_told, plane_count, decisions, plane_start}
+use Rattle.codec_terms.specs.BlockDecisions.{Block, Walk, no_samples, cleanup, pass_told, next_told, nothing_told, passes_told, plane_count, decisions, plane_start}
 use Rattle.codec_terms.proofs.WalkLaws.{behind, fold-next_told-behind}
 use Rattle.codec_laws.specs.PlaneDecisions.{plane_told, planes_decisions, block_decisions}
 

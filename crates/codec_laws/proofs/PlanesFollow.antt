@@ -1,5 +1,5 @@
 -- Each bit-plane leaves the significant samples that the next one begins with.
-use Rattle.std.proofs.Common.{◌≡◌, ℕ, ◌*◌, ◌^◌, ◌<◌, suc, map, length, All, sym, ◌∙◌, arith, false}
+use Rattle.std.proofs.Common.{◌≡◌, ℕ, ◌*◌, ◌^◌, ◌<◌, suc, length, All, sym, ◌∙◌, arith, false}
 use Rattle.std.specs.Prelude.{unsigned_abs}
 use Rattle.std.proofs.lemmas.List.{ext_get_or, get_or-replicate, length-map, length-replicate}
 use Rattle.codec_terms.specs.BlockDecisions.{Block, is_significant_above, no_samples, plane_count, plane_start}

@@ -10,8 +10,8 @@ use Rattle.std.proofs.lemmas.List.{length-map, length-set, get_or-map, get_or-se
 use Rattle.std.proofs.lemmas.List.Sums.{AllPass-from_list_all, fails_before_first}
 use Rattle.std.proofs.lemmas.List.Quantifiers.{position-Some}
 use Rattle.std.proofs.lemmas.List.Elements.{All-nil, All-cons, All-head, All-tail, All-map, All-weaker, All-drop, All-from_get_or}
-use Rattle.codec_terms.specs.Contexts.{is_in, contains, Column, in_fours, stripe_columns, scan, with_sample}
-use Rattle.codec_terms.specs.BlockDecisions.{Block, Walk, magnitude_at, plane_bit, with_decision, is_significant, is_visited, zero_context_of, sign_told, bit_told, is_reached, visited_at, propagated, is_refined, refined, is_left, cleaned, may_run, is_run, run_end, run_told, column_propagated, column_refined, column_cleaned, propagation, refinement, cleanup, is_significant_above, plane_start, value_at}
+use Rattle.codec_terms.specs.Contexts.{is_in, contains, Column, in_fours, stripe_columns, scan}
+use Rattle.codec_terms.specs.BlockDecisions.{Block, Walk, magnitude_at, plane_bit, with_decision, is_significant, is_visited, zero_context_of, sign_told, bit_told, is_reached, visited_at, propagated, is_refined, refined, is_left, cleaned, may_run, is_run, run_end, run_told, column_propagated, column_refined, column_cleaned, propagation, refinement, cleanup, is_significant_above, plane_start}
 use Rattle.codec_laws.proofs.Lists.{fold_keeps, fold_keeps_within, fold_reaches, All-flat_map, All-pieces, All-range, All-from_range}
 
 -- ---- the scan has each sample
