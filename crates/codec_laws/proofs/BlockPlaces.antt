@@ -1,7 +1,7 @@
 -- Each code-block of a sub-band stands in one precinct, and the code-blocks give the sub-band back.
 use Rattle.std.proofs.Common.{◌≡◌, ℕ, zero, suc, ◌+◌, ◌*◌, ◌/◌, ◌%◌, ◌<◌, ◌≤◌, ap, ap₂, ◌∙◌, arith, List, [], ◌∷◌, ◌++◌, length, take, drop, get_or, All, ℤ, map, sym, refl}
 use Rattle.std.specs.Int.{div_ceil}
-use Rattle.std.specs.List.{flat_map, range_with_len, enumerate_from, AllByRecursion}
+use Rattle.std.specs.List.{flat_map, range_with_len, enumerate_from}
 use Rattle.std.proofs.lemmas.Nat.{mul-add-lt, div-mul-add, mod-mul-add}
 use Rattle.std.proofs.lemmas.List.{length-map, length-append, length-drop, length-take-le, take_at, drop_at, take-append-drop, get_or-map}
 use Rattle.std.proofs.lemmas.List.FromFn.{length-map-range_with_len, get_or-map-range_with_len}
@@ -15,7 +15,7 @@ use Rattle.codec_terms.specs.Grid.{grid_of, items_of, grid_with, with_places, si
 use Rattle.codec_terms.specs.Precincts.{BlockArea, group_length, part_at, block_columns, block_rows, precinct_columns, precinct_rows, resolution, blocks_in, HasPrecincts}
 use Rattle.codec_terms.specs.Codestream.{block_of, row_places, block_places, packet_band, placed_block, packet_block}
 use Rattle.codec_terms.proofs.BlockLaws.{has_precincts}
-use Rattle.codec_terms.proofs.GridLaws.{of_parts-part_at}
+use Rattle.codec_terms.proofs.GridLaws.{HaveColumns, HaveColumns-drop, HaveColumns-take, of_parts-part_at}
 use Rattle.codec_laws.specs.Places.{OnePrecinct, blocks_of, block_grid}
 use Rattle.codec_laws.proofs.GridItems.{get_or-items_of}
 use Rattle.codec_laws.proofs.Lists.{All-flat_map, All-each}
@@ -108,20 +108,6 @@ with_places-grid_with : {A B : Type 0} (f : ℕ → ℕ → A → B) (columns ro
 with_places-grid_with f columns rows g =
     map-enumerated (λ row. map (λ item. f item.0 row.0 item.1) (enumerate_from 0 row.1)) (λ y. map (λ x. g x y) (range_with_len 0 columns)) 0 rows
     ∙ map-range-same _ _ 0 rows (λ y high. map-enumerated (λ item. f item.0 y item.1) (λ x. g x y) 0 columns)
-
--- each row has so many items
-abbrev pub HaveColumns : {A : Type 0} → ℕ → List (List A) → Type 0
-HaveColumns columns grid = AllByRecursion (λ row. length row ≡ columns) grid
-
-pub HaveColumns-drop : {A : Type 0} (columns n : ℕ) (grid : List (List A)) → HaveColumns columns grid → HaveColumns columns (drop n grid)
-HaveColumns-drop columns zero grid all = all
-HaveColumns-drop columns (suc n) [] all = all
-HaveColumns-drop columns (suc n) (row ∷ grid) all = HaveColumns-drop columns n grid all.1
-
-pub HaveColumns-take : {A : Type 0} (columns n : ℕ) (grid : List (List A)) → HaveColumns columns grid → HaveColumns columns (take n grid)
-HaveColumns-take columns zero grid all = tt
-HaveColumns-take columns (suc n) [] all = all
-HaveColumns-take columns (suc n) (row ∷ grid) all = (all.0, HaveColumns-take columns n grid all.1)
 
 HaveColumns-grid_of : {A : Type 0} (columns rows : ℕ) (items : List A) → length items ≡ columns * rows → HaveColumns columns (grid_of columns rows items)
 unfolding grid_of

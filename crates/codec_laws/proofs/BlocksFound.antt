@@ -1,11 +1,11 @@
 -- A reader finds each code-block of a sub-band where the writer put it.
-use Rattle.std.proofs.Common.{◌≡◌, ℕ, zero, suc, ◌+◌, ◌-◌, ◌*◌, ◌/◌, ◌%◌, ◌^◌, ◌<◌, ◌≤◌, ◌⊎◌, min, refl, sym, ap, ap₂, subst, ◌∙◌, arith, Bool, true, false, cond, List, [], ◌∷◌, ◌++◌, length, map, take, drop, get_or, All, ℤ, Some, find, zip, sum_by, inl, inr, length-drop}
+use Rattle.std.proofs.Common.{◌≡◌, ℕ, zero, suc, ◌+◌, ◌-◌, ◌*◌, ◌/◌, ◌%◌, ◌^◌, ◌<◌, ◌≤◌, ◌⊎◌, min, refl, sym, ap, ap₂, subst, ◌∙◌, arith, Bool, true, false, cond, List, [], ◌∷◌, length, map, get_or, All, ℤ, Some, find, zip, sum_by, inl, inr}
 use Rattle.std.specs.Prelude.{◌==◌, ◌&&◌, nat_lt}
 use Rattle.std.specs.Int.{div_ceil}
-use Rattle.std.specs.List.{flat_map, range_with_len, AllByRecursion}
+use Rattle.std.specs.List.{range_with_len, AllByRecursion}
 use Rattle.std.proofs.lemmas.Bool.{cases_Bool, eqb-true, eq-eqb, and_parts, and_from, ltb-true, false≢true, cond-true, cond-false}
 use Rattle.std.proofs.lemmas.Nat.{mul-add-lt}
-use Rattle.std.proofs.lemmas.List.{get_or-map, take_min, take_all, drop-drop, drop_all, take-append-drop}
+use Rattle.std.proofs.lemmas.List.{get_or-map}
 use Rattle.std.proofs.lemmas.List.Sums.{sum_by-le, get_or-le-sum_by, AllPass-from_list_all}
 use Rattle.std.proofs.lemmas.List.FromFn.{length-map-range_with_len, get_or-map-range_with_len}
 use Rattle.std.proofs.lemmas.List.Elements.{All-nil, All-cons, All-weaker, All-from_recursion}
@@ -13,16 +13,16 @@ use Rattle.codec_terms.specs.declared.picture.Shape.{Shape}
 use Rattle.codec_terms.specs.declared.picture.Band.{Band}
 use Rattle.codec_terms.specs.declared.packet.PacketBlock.{PacketBlock}
 use Rattle.codec_terms.specs.declared.packet.PacketBand.{PacketBand}
-use Rattle.codec_terms.specs.Grid.{grid_of, grid_with, beside, side_by_side, of_parts}
+use Rattle.codec_terms.specs.Grid.{grid_of, of_parts}
 use Rattle.codec_terms.specs.Bands.{all_bands, component_bands, resolution_bands, band_values, lowest_plane}
-use Rattle.codec_terms.specs.Precincts.{Precinct, precinct_at, precinct_exponent, resolution_columns, precinct_columns, precinct_rows, precinct_number, resolution, resolution_precincts, all_precincts, packet_order, group_length, part_at, block_columns, block_rows, BlockArea}
+use Rattle.codec_terms.specs.Precincts.{Precinct, precinct_at, precinct_exponent, resolution_columns, precinct_columns, precinct_rows, precinct_number, resolution, resolution_precincts, all_precincts, packet_order, part_at, block_columns, block_rows, BlockArea}
 use Rattle.codec_terms.specs.Codestream.{block_of, block_places, placed_block, packet_block, packet_band}
 use Rattle.codec_terms.specs.StreamReading.{is_precinct, no_band, place_in_packet, band_in, packet_band_of, precinct_blocks, band_blocks}
 use Rattle.codec_terms.proofs.OrderLaws.{sum_by-packet_order}
-use Rattle.codec_terms.proofs.GridLaws.{blocks_in-precinct_number, grid_of-block_places}
+use Rattle.codec_terms.proofs.GridLaws.{blocks_in-precinct_number, grid_of-block_places, HaveColumns, of_parts-enough}
 use Rattle.codec_laws.specs.Places.{bands_of_packet, packets_of, packet_blocks}
 use Rattle.codec_laws.proofs.Lists.{All-pieces, All-range}
-use Rattle.codec_laws.proofs.BlockPlaces.{all_have_precincts, grid_with-same, HaveColumns, HaveColumns-drop, HaveColumns-take}
+use Rattle.codec_laws.proofs.BlockPlaces.{all_have_precincts, grid_with-same}
 
 -- ---- a sub-band's place among those of its resolution
 
@@ -121,77 +121,6 @@ packet_band_of-is shape q cut band number small counted itself inside = elim (fo
       ∙ ap (packet_band shape q cut number) itself)
 ]
 
--- ---- precincts' parts, put together, where there may be more precincts than have a part of the sub-band; the lemmas of
--- codec_terms are of as many parts as there have to be
-
--- one list: a group of it and what is behind
-take-group : {A : Type 0} (size k n : ℕ) (xs : List A) → length xs ≡ n → take (group_length n size k) (drop (size * k) xs) ≡ take size (drop (size * k) xs)
-take-group size k n xs e =
-    let long : group_length n size k ≡ min size (length (drop (size * k) xs)) = rw (length-drop, e) refl in
-    ap (λ (m : ℕ). take m (drop (size * k) xs)) long ∙ take_min size (drop (size * k) xs)
-
-next_group : (size k : ℕ) → size * k + size ≡ size * (k + 1)
-next_group size k = omega arith
-
-group_and_rest : {A : Type 0} (size k n : ℕ) (xs : List A) → length xs ≡ n → take (group_length n size k) (drop (size * k) xs) ++ drop (size * (k + 1)) xs ≡ drop (size * k) xs
-group_and_rest size k n xs e =
-    let rest : drop (size * (k + 1)) xs ≡ drop size (drop (size * k) xs) = ap (λ (m : ℕ). drop m xs) (sym (next_group size k)) ∙ sym (drop-drop size (size * k) xs) in
-    rw (take-group size k n xs e, rest) (take-append-drop size (drop (size * k) xs))
-
-last_group : {A : Type 0} (size k n : ℕ) (xs : List A) → length xs ≡ n → n ≤ size * (k + 1) → take (group_length n size k) (drop (size * k) xs) ≡ drop (size * k) xs
-last_group size k n xs e all =
-    take-group size k n xs e ∙ take_all size (drop (size * k) xs) (rw length-drop (omega (arith, next_group size k)))
-
-beside-map : {A B : Type 0} (f h : List B → List A) (rows : List (List B)) → beside (map f rows) (map h rows) ≡ map (λ row. f row ++ h row) rows
-beside-map f h [] = refl
-beside-map f h (row ∷ rows) = ap (λ (others : List (List _)). (f row ++ h row) ∷ others) (beside-map f h rows)
-
-groups_and_rest : {A : Type 0} (size k n : ℕ) (rows : List (List A)) → HaveColumns n rows
-    → map (λ row. take (group_length n size k) (drop (size * k) row) ++ drop (size * (k + 1)) row) rows ≡ map (drop (size * k)) rows
-groups_and_rest size k n [] all = refl
-groups_and_rest size k n (row ∷ rows) all = ap₂ (λ (xs : List _) (others : List (List _)). xs ∷ others) (group_and_rest size k n row all.0) (groups_and_rest size k n rows all.1)
-
-last_groups : {A : Type 0} (size k n : ℕ) (rows : List (List A)) → HaveColumns n rows → n ≤ size * (k + 1)
-    → map (λ row. take (group_length n size k) (drop (size * k) row)) rows ≡ map (drop (size * k)) rows
-last_groups size k n [] all end = refl
-last_groups size k n (row ∷ rows) all end = ap₂ (λ (xs : List _) (others : List (List _)). xs ∷ others) (last_group size k n row all.0 end) (last_groups size k n rows all.1 end)
-
-beside-nil : {A : Type 0} (left : List (List A)) → beside left [] ≡ left
-beside-nil [] = refl
-beside-nil (row ∷ left) = refl
-
-row_of_parts : {A : Type 0} (size k m n : ℕ) (rows : List (List A)) → HaveColumns n rows → n ≤ size * (k + suc m)
-    → side_by_side (map (λ x. map (λ row. take (group_length n size x) (drop (size * x) row)) rows) (range_with_len k (suc m))) ≡ map (drop (size * k)) rows
-row_of_parts size k zero n rows all end = beside-nil _ ∙ last_groups size k n rows all end
-row_of_parts size k (suc m) n rows all end =
-    ap (beside _) (row_of_parts size (k + 1) m n rows all (omega arith))
-    ∙ (beside-map _ _ rows ∙ groups_and_rest size k n rows all)
-
-map-drop_none : {A : Type 0} (n : ℕ) (rows : List (List A)) → n ≡ 0 → map (drop n) rows ≡ rows
-map-drop_none zero [] none = refl
-map-drop_none zero (row ∷ rows) none = ap (λ (others : List (List _)). row ∷ others) (map-drop_none zero rows refl)
-map-drop_none (suc n) rows none = absurd (omega arith)
-
-drop_none : {A : Type 0} (n : ℕ) (xs : List A) → n ≡ 0 → drop n xs ≡ xs
-drop_none zero xs none = refl
-drop_none (suc n) xs none = absurd (omega arith)
-
-rows_of_parts : {A : Type 0} (size k m n columns across : ℕ) (grid : List (List A)) → HaveColumns columns grid → length grid ≡ n → n ≤ size * (k + m) → columns ≤ size * suc across
-    → flat_map side_by_side (map (λ y. map (λ x. part_at size columns n grid x y) (range_with_len 0 (suc across))) (range_with_len k m)) ≡ drop (size * k) grid
-rows_of_parts size k zero n columns across grid all long end wide = sym (drop_all (size * k) grid (omega arith))
-rows_of_parts {A} size k (suc m) n columns across grid all long end wide =
-    let rows : List (List A) = take (group_length n size k) (drop (size * k) grid) in
-    let whole = row_of_parts size 0 across columns rows (HaveColumns-take columns (group_length n size k) (drop (size * k) grid) (HaveColumns-drop columns (size * k) grid all)) (omega arith) in
-    ap₂ (λ (xs ys : List (List A)). xs ++ ys) (whole ∙ map-drop_none (size * 0) rows (omega arith)) (rows_of_parts size (k + 1) m n columns across grid all long (omega arith) wide)
-    ∙ group_and_rest size k n grid long
-
-enough_parts : {A : Type 0} (size columns rows across down : ℕ) (grid : List (List A)) → 0 < across → HaveColumns columns grid → length grid ≡ rows → columns ≤ size * across → rows ≤ size * down
-    → of_parts (grid_with across down (part_at size columns rows grid)) ≡ grid
-unfolding of_parts
-enough_parts size columns rows zero down grid some all long wide high = absurd (omega (arith, some))
-enough_parts size columns rows (suc across) down grid some all long wide high =
-    rows_of_parts size 0 down rows columns across grid all long (omega arith) wide ∙ drop_none (size * 0) grid (omega arith)
-
 -- ---- the sub-band's blocks
 
 HaveColumns-grid_with : {A : Type 0} (f : ℕ → ℕ → A) (columns : ℕ) (ys : List ℕ) → HaveColumns columns (map (λ y. map (λ x. f x y) (range_with_len 0 columns)) ys)
@@ -236,6 +165,6 @@ band_blocks-are shape q cut some = λ k d inside.
     let f : ℕ → ℕ → PacketBlock = λ x y. packet_block band (lowest_plane cut band) (block_of shape band (band_values shape q band) x y) in
     ap of_parts (grid_with-same across down (precinct_blocks shape (packets_of shape q cut band.component) band) (part_at 4 columns rows (packet_blocks shape q cut band))
     (λ px py wide high. precinct_blocks-are shape q cut band px py counted.0 counted.1 itself wide high))
-    ∙ enough_parts 4 columns rows across down (packet_blocks shape q cut band) (some_precincts shape (resolution band) some)
+    ∙ of_parts-enough 4 columns rows across down (packet_blocks shape q cut band) (some_precincts shape (resolution band) some)
     (HaveColumns-grid_with f columns (range_with_len 0 rows)) (length-map-range_with_len (λ y. map (λ x. f x y) (range_with_len 0 columns)) 0 rows)
     has.in_columns has.in_rows

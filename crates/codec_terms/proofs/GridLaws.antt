@@ -12,15 +12,15 @@ use Rattle.codec_terms.specs.Precincts.{group_length, part_at, BlockArea, block_
 use Rattle.codec_terms.specs.Codestream.{row_places, block_places}
 
 -- each row has so many items
-abbrev HaveColumns : {A : Type 0} → ℕ → List (List A) → Type 0
+abbrev pub HaveColumns : {A : Type 0} → ℕ → List (List A) → Type 0
 HaveColumns columns grid = AllByRecursion (λ row. length row ≡ columns) grid
 
-HaveColumns-drop : {A : Type 0} (columns n : ℕ) (grid : List (List A)) → HaveColumns columns grid → HaveColumns columns (drop n grid)
+pub HaveColumns-drop : {A : Type 0} (columns n : ℕ) (grid : List (List A)) → HaveColumns columns grid → HaveColumns columns (drop n grid)
 HaveColumns-drop columns zero grid all = all
 HaveColumns-drop columns (suc n) [] all = all
 HaveColumns-drop columns (suc n) (row ∷ grid) all = HaveColumns-drop columns n grid all.1
 
-HaveColumns-take : {A : Type 0} (columns n : ℕ) (grid : List (List A)) → HaveColumns columns grid → HaveColumns columns (take n grid)
+pub HaveColumns-take : {A : Type 0} (columns n : ℕ) (grid : List (List A)) → HaveColumns columns grid → HaveColumns columns (take n grid)
 HaveColumns-take columns zero grid all = tt
 HaveColumns-take columns (suc n) [] all = all
 HaveColumns-take columns (suc n) (row ∷ grid) all = (all.0, HaveColumns-take columns n grid all.1)
@@ -101,17 +101,23 @@ drop_none : {A : Type 0} (n : ℕ) (xs : List A) → n ≡ 0 → drop n xs ≡ x
 drop_none zero xs none = refl
 drop_none (suc n) xs none = absurd (omega arith)
 
-all_parts : {A : Type 0} (size columns rows across down : ℕ) (grid : List (List A)) → 0 < columns → HaveColumns columns grid → length grid ≡ rows → columns ≤ size * across → rows ≤ size * down
+-- the parts may be more than there have to be
+pub of_parts-enough : {A : Type 0} (size columns rows across down : ℕ) (grid : List (List A)) → 0 < across → HaveColumns columns grid → length grid ≡ rows → columns ≤ size * across → rows ≤ size * down
     → of_parts (grid_with across down (part_at size columns rows grid)) ≡ grid
 unfolding of_parts
-all_parts size columns rows zero down grid wide all long across_all down_all = absurd (omega arith)
-all_parts size columns rows (suc across) down grid wide all long across_all down_all =
-    rows_of_parts size 0 down rows columns across grid all long (omega arith) across_all ∙ drop_none (size * 0) grid (omega arith)
+of_parts-enough size columns rows zero down grid some all long wide high = absurd (omega (arith, some))
+of_parts-enough size columns rows (suc across) down grid some all long wide high =
+    rows_of_parts size 0 down rows columns across grid all long (omega arith) wide ∙ drop_none (size * 0) grid (omega arith)
+
+some_across : (size columns across : ℕ) → 0 < columns → columns ≤ size * across → 0 < across
+some_across size columns zero wide enough = absurd (omega arith)
+some_across size columns (suc across) wide enough = omega arith
 
 pub of_parts-part_at : {A : Type 0} (size columns rows : ℕ) (grid : List (List A)) → 0 < size → 0 < columns → HaveColumns columns grid → length grid ≡ rows
     → of_parts (grid_with (div_ceil columns size) (div_ceil rows size) (part_at size columns rows grid)) ≡ grid
 of_parts-part_at size columns rows grid some wide all long =
-    all_parts size columns rows (div_ceil columns size) (div_ceil rows size) grid wide all long (enough size columns some) (enough size rows some)
+    of_parts-enough size columns rows (div_ceil columns size) (div_ceil rows size) grid (some_across size columns (div_ceil columns size) wide (enough size columns some))
+    all long (enough size columns some) (enough size rows some)
 
 -- ---- the items at the places of an area
 
