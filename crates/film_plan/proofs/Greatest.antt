@@ -1,6 +1,6 @@
 -- The greatest of a count, item by item.
-use Rattle.std.proofs.Common.{◌≡◌, ℕ, ◌+◌, ◌<◌, List, [], ◌∷◌, ◌++◌, length, map, take, get_or, max, ap, sym, ◌∙◌, arith}
-use Rattle.std.proofs.lemmas.List.{map_more}
+use Rattle.std.proofs.Common.{◌≡◌, ℕ, ◌+◌, ◌<◌, List, [], ◌∷◌, ◌++◌, length, take, get_or, max, ap, sym, ◌∙◌, arith}
+use Rattle.std.proofs.lemmas.List.{take_more}
 use Rattle.std.proofs.lemmas.Bool.Decides.{nat_tests}
 use Rattle.std.specs.Ordering.{ord_max, nat_cmp}
 use Rattle.film_plan.specs.Needs.{greatest}
@@ -14,9 +14,10 @@ greatest_end : {T : Type 0} (count : T → ℕ) (items : List T) (item : T) → 
 greatest_end count [] item = omega arith
 greatest_end count (first ∷ items) item = ap (max (count first)) (greatest_end count items item) ∙ omega arith
 
--- the greatest of the first i + 1 items of a list, by their facts
-pub greatest_more : {T U : Type 0} (facts : T → U) (count : U → ℕ) (items : List T) (i : ℕ) (item : T) → i < length items → item ≡ get_or items i item → greatest count (map facts (take (i + 1) items)) ≡ max (greatest count (map facts (take i items))) (count (facts item))
-greatest_more facts count items i item below is =
-    ap (greatest count) (map_more facts items i item below)
-    ∙ greatest_end count (map facts (take i items)) (facts (get_or items i item))
-    ∙ ap (λ x. max (greatest count (map facts (take i items))) (count (facts x))) (sym is)
+-- the greatest of the first i + 1 items of a list
+pub greatest_more : {T : Type 0} (count : T → ℕ) (items : List T) (i : ℕ) (item : T) → i < length items → item ≡ get_or items i item
+    → greatest count (take (i + 1) items) ≡ max (greatest count (take i items)) (count item)
+greatest_more count items i item below is =
+    ap (greatest count) (take_more items i item below)
+    ∙ greatest_end count (take i items) (get_or items i item)
+    ∙ ap (λ x. max (greatest count (take i items)) (count x)) (sym is)

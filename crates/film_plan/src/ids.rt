@@ -1,6 +1,5 @@
 ghost use Rattle.std.specs.Prelude.{◌≡◌};
 ghost use Rattle.film_plan.specs.Plan as spec;
-ghost use Rattle.film_project.specs.Plain.{project_facts};
 
 use film_project::Project;
 use uuid::Uuid;
@@ -21,7 +20,7 @@ pub struct Ids {
 }
 
 pub(crate) fn ids_of(project: &Project) -> Ids
-    ensures { result ≡ spec.ids_of (project_facts project.now) }
+    ensures { result ≡ spec.ids_of project.now }
 {
     Ids {
         cpl: id_of(project, b"cpl"),
@@ -34,7 +33,7 @@ pub(crate) fn ids_of(project: &Project) -> Ids
 }
 
 fn id_of(project: &Project, name: &[u8]) -> [u8; 16]
-    ensures { result ≡ spec.id_of (project_facts project.now) name.now }
+    ensures { result ≡ spec.id_of project.now name.now }
 {
     Uuid::new_v5(&Uuid::from_bytes(project.namespace), name).into_bytes()
 }

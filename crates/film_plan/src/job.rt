@@ -1,6 +1,5 @@
 ghost use Rattle.std.specs.Prelude.{◌≡◌};
 ghost use Rattle.film_plan.specs.Plan.{ids_of, job_of, limits_of};
-ghost use Rattle.film_project.specs.Plain.{project_facts};
 ghost use Rattle.film_timeline.specs.Timeline.{cells_of};
 
 use crate::ids::Ids;
@@ -19,8 +18,8 @@ pub struct Plan {
     pub ids: Ids,
     /// What tells this job from others: `DCPJOB 1`, a line feed and the canonical project.
     pub job_text: Bytes,
-    pub ghost cells_are: { cells ≡ cells_of (project_facts project) },
-    pub ghost limits_are: { limits ≡ limits_of (project_facts project) },
-    pub ghost ids_are: { ids ≡ ids_of (project_facts project) },
-    pub ghost job_text_is: { job_text ≡ job_of (project_facts project) },
+    pub ghost cells_are: { cells ≡ cells_of project },
+    pub ghost limits_are: { limits ≡ limits_of project },
+    pub ghost ids_are: { ids ≡ ids_of project },
+    pub ghost job_text_is: { job_text ≡ job_of project },
 }

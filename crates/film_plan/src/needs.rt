@@ -1,12 +1,11 @@
 ghost use Rattle.std.specs.Prelude.{◌≡◌, ◌≤◌, map};
 ghost use Rattle.film_plan.specs.Needs as spec;
-ghost use Rattle.film_project.specs.Plain.{asset_facts, picture_facts, sound_facts, project_facts};
 
 use film_project::{Asset, AssetKind, PictureClip, Project, SoundClip};
 
 /// How many bytes the clips need of the asset at this place: 0 where it isn't a single file.
 pub(crate) fn need_of(project: &Project, place: usize, asset: &Asset) -> u64
-    ensures { result ≡ spec.need_of (project_facts project.now) place (asset_facts asset.now) }
+    ensures { result ≡ spec.need_of project.now place asset.now }
 {
     match asset.kind {
         AssetKind::Rgb48 => {
@@ -21,7 +20,7 @@ pub(crate) fn need_of(project: &Project, place: usize, asset: &Asset) -> u64
 
 /// The frames up to the last one that a clip shows of the asset at this place.
 fn frames_shown(clips: &[PictureClip], place: usize) -> u64
-    ensures value { result ≡ spec.greatest (spec.frames_shown place) (map picture_facts clips.now) }
+    ensures value { result ≡ spec.greatest (spec.frames_shown place) clips.now }
     ensures small { result ≤ 1_431_999 }
 {
     let mut most = 0;
@@ -32,7 +31,7 @@ fn frames_shown(clips: &[PictureClip], place: usize) -> u64
 }
 
 fn clip_shown(clip: &PictureClip, place: usize) -> u64
-    ensures value { result ≡ spec.frames_shown place (picture_facts clip.now) }
+    ensures value { result ≡ spec.frames_shown place clip.now }
     ensures small { result ≤ 1_431_999 }
 {
     if clip.asset as usize == place {
@@ -44,7 +43,7 @@ fn clip_shown(clip: &PictureClip, place: usize) -> u64
 
 /// The frames up to the last one whose samples a clip plays of the asset at this place.
 fn frames_played(clips: &[SoundClip], place: usize) -> u64
-    ensures value { result ≡ spec.greatest (spec.frames_played place) (map sound_facts clips.now) }
+    ensures value { result ≡ spec.greatest (spec.frames_played place) clips.now }
     ensures small { result ≤ 1_431_999 }
 {
     let mut most = 0;
@@ -55,7 +54,7 @@ fn frames_played(clips: &[SoundClip], place: usize) -> u64
 }
 
 fn clip_played(clip: &SoundClip, place: usize) -> u64
-    ensures value { result ≡ spec.frames_played place (sound_facts clip.now) }
+    ensures value { result ≡ spec.frames_played place clip.now }
     ensures small { result ≤ 1_431_999 }
 {
     if clip.asset as usize == place {
@@ -67,7 +66,7 @@ fn clip_played(clip: &SoundClip, place: usize) -> u64
 
 /// The bytes of a frame of 16-bit red, green and blue samples.
 fn frame_size(project: &Project) -> u64
-    ensures value { result ≡ spec.frame_size (project_facts project.now) }
+    ensures value { result ≡ spec.frame_size project.now }
     ensures small { result ≤ 13_271_040 }
 {
     u64::from(project.width) * u64::from(project.height) * 6
@@ -76,7 +75,7 @@ fn frame_size(project: &Project) -> u64
 /// The bytes of a frame of 24-bit samples at 48 kHz in this many channels.
 fn sound_size(project: &Project, channels: u8) -> u64
     requires { channels ≤ 16 }
-    ensures value { result ≡ spec.sound_size (project_facts project.now) channels }
+    ensures value { result ≡ spec.sound_size project.now channels }
     ensures small { result ≤ 96_000 }
 {
     48_000 / u64::from(project.fps) * u64::from(channels) * 3

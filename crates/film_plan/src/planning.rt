@@ -1,16 +1,13 @@
-ghost use Rattle.std.specs.Prelude.{◌≡◌, ◌<◌, ◌∷◌, ◌++◌, ℕ, codes, List, Some, None, Ok, Err, IfOk, IsOk, length};
+ghost use Rattle.std.specs.Prelude.{◌≡◌, ◌<◌, ◌∷◌, ◌++◌, ℕ, codes, List, Some, None, Err, IfOk, length};
 ghost use Rattle.film_plan.specs.Needs.{first_short, Short};
 ghost use Rattle.film_plan.specs.Plan as spec;
-ghost use Rattle.film_project.specs.Accepts.{accepts};
-ghost use Rattle.film_project.specs.Plain.{project_facts};
 
 use crate::ids::ids_of;
 use crate::job::Plan;
 use crate::needs::need_of;
 use crate::refusal::PlanRefusal;
 use film_printer::project_text;
-use film_project::{Project, ProjectRefusal};
-use film_reader::read_project;
+use film_project::Project;
 use film_timeline::cells;
 use mast_base::{Bytes, Limits, NoMemory};
 use std::alloc::Global;
@@ -20,10 +17,10 @@ use std::alloc::Global;
 pub fn plan(alloc: Global, project: &Project, sizes: &[u64]) -> Result<Plan, PlanRefusal>
     requires { length sizes.now ≡ length project.now.assets }
 
-    ensures planned { IfOk result (λ plan. project_facts plan.project ≡ project_facts project.now) }
-    ensures enough { IfOk result (λ _. first_short (project_facts project.now) sizes.now ≡ None) }
+    ensures planned { IfOk result (λ plan. plan.project ≡ project.now) }
+    ensures enough { IfOk result (λ _. first_short project.now sizes.now ≡ None) }
     ensures short { (asset : List ℕ) (size need : ℕ) → result ≡ Err (PlanRefusal.InputShort asset size need)
-        → first_short (project_facts project.now) sizes.now ≡ Some (record { asset = asset; size = size; need = need }) }
+        → first_short project.now sizes.now ≡ Some (record { asset = asset; size = size; need = need }) }
     ensures less { (asset : List ℕ) (size need : ℕ) → result ≡ Err (PlanRefusal.InputShort asset size need) → size < need }
 {
     check_sizes(alloc, project, sizes)?;
@@ -33,9 +30,9 @@ pub fn plan(alloc: Global, project: &Project, sizes: &[u64]) -> Result<Plan, Pla
 /// Refuses the first asset that is shorter than its need.
 fn check_sizes(alloc: Global, project: &Project, sizes: &[u64]) -> Result<(), PlanRefusal>
     requires { length sizes.now ≡ length project.now.assets }
-    ensures enough { IfOk result (λ _. first_short (project_facts project.now) sizes.now ≡ None) }
+    ensures enough { IfOk result (λ _. first_short project.now sizes.now ≡ None) }
     ensures short { (asset : List ℕ) (size need : ℕ) → result ≡ Err (PlanRefusal.InputShort asset size need)
-        → first_short (project_facts project.now) sizes.now ≡ Some (record { asset = asset; size = size; need = need }) }
+        → first_short project.now sizes.now ≡ Some (record { asset = asset; size = size; need = need }) }
     ensures less { (asset : List ℕ) (size need : ℕ) → result ≡ Err (PlanRefusal.InputShort asset size need) → size < need }
 {
     for (place, asset) in project.assets.as_slice().iter().enumerate() {
@@ -53,11 +50,10 @@ fn check_sizes(alloc: Global, project: &Project, sizes: &[u64]) -> Result<(), Pl
 }
 
 fn make_plan(alloc: Global, project: &Project) -> Result<Plan, NoMemory>
-    ensures { IfOk result (λ plan. project_facts plan.project ≡ project_facts project.now) }
+    ensures { IfOk result (λ plan. plan.project ≡ project.now) }
 {
-    // The canonical text tells the whole project, so that what is read back from it is a copy.
     let text = project_text(alloc, project)?;
-    let project = read_back(alloc, text.as_slice())?;
+    let project = project.copy(alloc)?;
     let cells = cells(alloc, &project)?;
     let limits = limits_of(&project);
     let ids = ids_of(&project);
@@ -71,20 +67,8 @@ fn make_plan(alloc: Global, project: &Project) -> Result<Plan, NoMemory>
     })
 }
 
-/// The project of a text that tells one.
-fn read_back(alloc: Global, text: &[u8]) -> Result<Project, NoMemory>
-    requires { IsOk (accepts text.now) }
-    ensures { IfOk result (λ project. accepts text.now ≡ Ok (project_facts project)) }
-{
-    match read_project(alloc, text) {
-        Ok(project) => Ok(project),
-        Err(ProjectRefusal::NoMemory) => Err(NoMemory),
-        Err(_) => unreachable!(),
-    }
-}
-
 fn limits_of(project: &Project) -> Limits
-    ensures { result ≡ spec.limits_of (project_facts project.now) }
+    ensures { result ≡ spec.limits_of project.now }
 {
     let rate = u32::from(project.rate);
     let fps = u32::from(project.fps);

@@ -1,5 +1,5 @@
 -- The canonical JSON of assets has no fault, and reads back.
-use Rattle.std.proofs.Common.{if◌then◌else◌, add-zero, ◌≡◌, ◌≢◌, ℕ, zero, suc, ◌+◌, ◌<◌, ◌≤◌, List, [], ◌∷◌, ◌++◌, map, length, get_or, slice_index_or, All, bytes_eq, Bool, true, false, ◌||◌, Option, Some, None, option_map, is_none, refl, sym, ap, ◌∙◌, subst, arith}
+use Rattle.std.proofs.Common.{if◌then◌else◌, add-zero, ◌≡◌, ◌≢◌, ℕ, zero, suc, ◌+◌, ◌<◌, ◌≤◌, List, [], ◌∷◌, ◌++◌, map, length, get_or, All, bytes_eq, Bool, true, false, ◌||◌, Option, Some, None, option_map, is_none, refl, sym, ap, ◌∙◌, arith}
 use Rattle.std.specs.List.{AllPairs}
 use Rattle.std.specs.Option.{option_or}
 use Rattle.std.proofs.lemmas.Bool.Decides.{nat_tests}
@@ -8,12 +8,11 @@ use Rattle.serde_json.specs.Data.{Data}
 use Rattle.serde_json.specs.View.{items_of}
 use Rattle.film_project.specs.Accepts.{asset_in, assets_fault, find_asset}
 use Rattle.film_project.specs.Canonical.{asset_data, id_at}
-use Rattle.film_project.specs.Facts.{AssetFacts, no_asset}
+use Rattle.film_project.specs.Facts.{AssetFacts, no_asset, nth_asset}
 use Rattle.film_project.specs.Members.{list_of, text_fault, number_fault, within}
 use Rattle.film_project.specs.Objects.{asset_members, object_fault}
-use Rattle.film_project.specs.Plain.{asset_facts}
+use Rattle.film_project.specs.Rules.{IsAsset}
 use Rattle.film_project.specs.Texts.{keeps, text_place, is_one_of}
-use Rattle.film_project.specs.declared.asset.Asset.{Asset}
 use Rattle.film_project.specs.declared.asset.AssetKind.{AssetKind}
 use Rattle.film_project.specs.declared.asset.AssetKind.TheVariants.{Rgb48, Ppm, J2c, Pcm24}
 use Rattle.film_project.specs.declared.place.Place.TheVariants as place
@@ -22,7 +21,6 @@ use Rattle.film_project.specs.declared.refusal.ProjectRefusal.TheVariants.{BadTe
 use Rattle.film_project.specs.declared.text_rule.TextRule.{TextRule}
 use Rattle.film_project.specs.declared.text_rule.TextRule.TheVariants as rule
 use Rattle.film_project.proofs.Ids.{same_itself}
-use Rattle.std.proofs.lemmas.List.{get_or-map}
 
 -- ---- lists
 
@@ -79,9 +77,9 @@ asset_back id Pcm24 file n = refl
 
 -- ---- all assets
 
-pub assets_back : (xs : List Asset) → map asset_in (map asset_data (map asset_facts xs)) ≡ map asset_facts xs
+pub assets_back : (xs : List AssetFacts) → map asset_in (map asset_data xs) ≡ xs
 assets_back [] = refl
-assets_back (a ∷ rest) = ap (λ b. b ∷ map asset_in (map asset_data (map asset_facts rest))) (asset_back a.id a.kind a.file a.channels) ∙ ap (λ bs. asset_facts a ∷ bs) (assets_back rest)
+assets_back (a ∷ rest) = ap (λ b. b ∷ map asset_in (map asset_data rest)) (asset_back a.id a.kind a.file a.channels) ∙ ap (λ bs. a ∷ bs) (assets_back rest)
 
 not_true : (b : Bool) → (b ≡ true → ⊥) → b ≡ false
 not_true true other = absurd (other refl)
@@ -101,33 +99,27 @@ one_more (y ∷ seen) x s e h = both_false (bytes_eq y s) (is_one_of seen s) (is
 pub double_ok : (b : Bool) (r : ProjectRefusal) → b ≡ false → (if b then Some r else None) ≡ None
 double_ok b r e = rw e
 
-pub assets_ok : (xs : List Asset) (i : ℕ) (seen : List (List ℕ)) → AllPairs (λ a b. a.id ≢ b.id) xs → All (λ a. is_one_of seen a.id ≡ false) xs
-    → assets_fault i seen (map asset_data (map asset_facts xs)) ≡ None
-assets_ok [] i seen apart new = refl
-assets_ok (a ∷ rest) i seen apart new =
+pub assets_ok : (xs : List AssetFacts) (i : ℕ) (seen : List (List ℕ)) → All IsAsset xs → AllPairs (λ a b. a.id ≢ b.id) xs → All (λ a. is_one_of seen a.id ≡ false) xs
+    → assets_fault i seen (map asset_data xs) ≡ None
+assets_ok [] i seen kept apart new = refl
+assets_ok (a ∷ rest) i seen kept apart new =
+    let r : IsAsset a = kept 0 a (omega arith) in
     let later_new : All (λ b. is_one_of (seen ++ a.id ∷ []) b.id ≡ false) rest =
     λ k d h. one_more seen a.id (get_or rest k d).id (new (suc k) d (omega arith)) (different a.id (get_or rest k d).id (apart 0 (suc k) d (omega arith) (omega arith))) in
     two_none _ _
-    (two_none _ _ (asset_ok i a.id a.kind a.file a.channels a.id_kept a.file_kept a.most_channels a.some_channels a.no_channels)
+    (two_none _ _ (asset_ok i a.id a.kind a.file a.channels r.id_kept r.file_kept r.most_channels r.some_channels r.no_channels)
     (double_ok (is_one_of seen a.id) _ (new 0 a (omega arith))))
-    (assets_ok rest (i + 1) (seen ++ a.id ∷ []) (λ j k d below h. apart (suc j) (suc k) d (omega arith) (omega arith)) later_new)
+    (assets_ok rest (i + 1) (seen ++ a.id ∷ []) (λ k d h. kept (suc k) d (omega arith)) (λ j k d below h. apart (suc j) (suc k) d (omega arith) (omega arith)) later_new)
 
 -- ---- an asset by its id
 
-pub find_at : (xs : List Asset) (i k : ℕ) → AllPairs (λ a b. a.id ≢ b.id) xs → k < length xs
-    → find_asset (id_at (map asset_facts xs) k) i (map asset_facts xs) ≡ Some (i + k, slice_index_or (map asset_facts xs) k no_asset)
+pub find_at : (xs : List AssetFacts) (i k : ℕ) → AllPairs (λ a b. a.id ≢ b.id) xs → k < length xs
+    → find_asset (id_at xs k) i xs ≡ Some (i + k, nth_asset xs k)
 find_at [] i k apart h = absurd (omega arith)
-find_at (a ∷ rest) i zero apart h = rw (same_itself a.id) (ap (λ n. Some (n, asset_facts a)) (sym (add-zero i)))
+find_at (a ∷ rest) i zero apart h = rw (same_itself a.id) (ap (λ n. Some (n, a)) (sym (add-zero i)))
 find_at (a ∷ rest) i (suc k) apart h =
-    let other : a.id ≢ (get_or rest k a).id = apart 0 (suc k) a (omega arith) h in
-    let here : slice_index_or (map asset_facts rest) k no_asset ≡ asset_facts (get_or rest k a) = get_or-map asset_facts rest k a no_asset (omega arith) in
-    let miss : bytes_eq a.id (id_at (map asset_facts rest) k) ≡ false =
-    subst (λ b. bytes_eq a.id b.id ≡ false) (sym here) (different a.id (get_or rest k a).id other) in
+    let other : a.id ≢ (nth_asset rest k).id = apart 0 (suc k) no_asset (omega arith) h in
+    let miss : bytes_eq a.id (id_at rest k) ≡ false = different a.id (nth_asset rest k).id other in
     let same : i + 1 + k ≡ i + suc k = omega arith in
     rw miss (find_at rest (i + 1) k (λ j m d below w. apart (suc j) (suc m) d (omega arith) (omega arith)) (omega arith)
-    ∙ ap (λ n. Some (n, slice_index_or (map asset_facts rest) k no_asset)) same)
-
--- what holds of the kind of an asset in the list holds of its plain values
-pub kind_at : (P : AssetKind → Type 0) (xs : List Asset) (k : ℕ) → k < length xs → ((none : Asset) → P (slice_index_or xs k none).kind) → P (slice_index_or (map asset_facts xs) k no_asset).kind
-kind_at P [] k h f = absurd (omega arith)
-kind_at P (a ∷ rest) k h f = subst (λ b. P b.kind) (sym (get_or-map asset_facts (a ∷ rest) k a no_asset h)) (f a)
+    ∙ ap (λ n. Some (n, nth_asset rest k)) same)

@@ -14,9 +14,8 @@ use Rattle.film_project.specs.Canonical.{project_data, asset_data, picture_data,
 use Rattle.film_project.specs.Facts.{AssetFacts, PictureFacts, SoundFacts, ProjectFacts}
 use Rattle.film_project.specs.Members.{list_of, first_of, value_or, objects_fault, rate_fault, count_fault, is_frame_rate, members_fault, range_fault}
 use Rattle.film_project.specs.Objects.{title_members, format_members, list_members, project_members, object_fault}
-use Rattle.film_project.specs.Plain.{project_facts, asset_facts, picture_facts, sound_facts}
+use Rattle.film_project.specs.Rules.{IsProject}
 use Rattle.film_project.specs.Texts.{keeps, offends, fits_uuid, is_lower_hex, first_place}
-use Rattle.film_project.specs.declared.project.Project.{Project}
 use Rattle.film_project.specs.declared.place.Place.TheVariants as place
 use Rattle.film_project.specs.declared.refusal.ProjectRefusal.{ProjectRefusal}
 use Rattle.film_project.specs.declared.text_rule.TextRule.TheVariants as rule
@@ -64,9 +63,9 @@ namespace_back xs len small = ap (value_or []) (sym (parses_hyphenated lower xs 
 
 -- ---- the members of the top object
 
-titles_ok : (p : Project) → members_fault place.Project (project_data (project_facts p)) title_members ≡ None
-titles_ok p =
-    four_none _ _ _ _ (text_ok _ rule.Title p.title p.title_kept) (text_ok _ rule.ContentKind p.kind p.kind_kept) (text_ok _ rule.Issued p.issued p.issued_kept)
+titles_ok : (p : ProjectFacts) → IsProject p → members_fault place.Project (project_data p) title_members ≡ None
+titles_ok p r =
+    four_none _ _ _ _ (text_ok _ rule.Title p.title r.title_kept) (text_ok _ rule.ContentKind p.kind r.kind_kept) (text_ok _ rule.Issued p.issued r.issued_kept)
     (text_ok _ rule.Namespace (hyphenated_text lower p.namespace) (namespace_kept p.namespace))
 
 rate_ok : (name : List ℕ) (n : ℕ) → is_frame_rate n ≡ true → rate_fault name (Some n) ≡ None
@@ -85,11 +84,11 @@ seven_none : (f g h k l m n : Option ProjectRefusal) → f ≡ None → g ≡ No
     → option_or f (option_or g (option_or h (option_or k (option_or l (option_or m (option_or n None)))))) ≡ None
 seven_none f g h k l m n a b c d e i j = rw (a, b, c, d, e, i, j)
 
-format_ok : (p : Project) → members_fault place.Project (project_data (project_facts p)) format_members ≡ None
-format_ok p =
-    seven_none _ _ _ _ _ _ _ (number_ok _ 32 2048 p.width p.least_width p.most_width) (number_ok _ 32 1080 p.height p.least_height p.most_height)
-    (rate_ok _ p.fps p.fps_known) (number_ok _ 10 250 p.rate p.least_rate p.most_rate) (number_ok _ 11 13 p.power p.least_power p.most_power)
-    (number_ok _ 0 16 p.channels (omega arith) p.most_channels) (count_ok _ p.frames p.some_frames p.most_frames)
+format_ok : (p : ProjectFacts) → IsProject p → members_fault place.Project (project_data p) format_members ≡ None
+format_ok p r =
+    seven_none _ _ _ _ _ _ _ (number_ok _ 32 2048 p.width r.least_width r.most_width) (number_ok _ 32 1080 p.height r.least_height r.most_height)
+    (rate_ok _ p.fps r.fps_known) (number_ok _ 10 250 p.rate r.least_rate r.most_rate) (number_ok _ 11 13 p.power r.least_power r.most_power)
+    (number_ok _ 0 16 p.channels (omega arith) r.most_channels) (count_ok _ p.frames r.some_frames r.most_frames)
 
 list_ok : (name : List ℕ) (ds : List Data) → length ds ≤ 1000 → objects_fault name (Some (list_of (items_of ds))) ≡ None
 list_ok name ds h = rw list_of-items_of (range_ok name (nat_le (length ds) 1000) (length ds) (le-leb (length ds) 1000 h))
@@ -97,49 +96,49 @@ list_ok name ds h = rw list_of-items_of (range_ok name (nat_le (length ds) 1000)
 three_none : (f g h : Option ProjectRefusal) → f ≡ None → g ≡ None → h ≡ None → option_or f (option_or g (option_or h None)) ≡ None
 three_none f g h a b c = rw (a, b, c)
 
-twice_mapped : {A B C : Type 0} (f : A → B) (g : B → C) (xs : List A) (n : ℕ) → length xs ≤ n → length (map g (map f xs)) ≤ n
-twice_mapped f g xs n h = omega (arith, length-map (map f xs) g, length-map xs f, h)
+mapped : {A B : Type 0} (f : A → B) (xs : List A) (n : ℕ) → length xs ≤ n → length (map f xs) ≤ n
+mapped f xs n h = omega (arith, length-map xs f, h)
 
-lists_ok : (p : Project) → members_fault place.Project (project_data (project_facts p)) list_members ≡ None
-lists_ok p =
-    three_none _ _ _ (list_ok _ _ (twice_mapped asset_facts asset_data p.assets 1000 p.most_assets))
-    (list_ok _ _ (twice_mapped picture_facts (picture_data (map asset_facts p.assets)) p.picture 1000 p.most_picture))
-    (list_ok _ _ (twice_mapped sound_facts (sound_data (map asset_facts p.assets)) p.sound 1000 p.most_sound))
+lists_ok : (p : ProjectFacts) → IsProject p → members_fault place.Project (project_data p) list_members ≡ None
+lists_ok p r =
+    three_none _ _ _ (list_ok _ _ (mapped asset_data p.assets 1000 r.most_assets))
+    (list_ok _ _ (mapped (picture_data p.assets) p.picture 1000 r.most_picture))
+    (list_ok _ _ (mapped (sound_data p.assets) p.sound 1000 r.most_sound))
 
-top_ok : (p : Project) → object_fault place.Project project_members (project_data (project_facts p)) ≡ None
-top_ok p =
-    let d = project_data (project_facts p) in
+top_ok : (p : ProjectFacts) → IsProject p → object_fault place.Project project_members (project_data p) ≡ None
+top_ok p r =
+    let d = project_data p in
     two_none _ _ refl
-    (members_fault-later place.Project d title_members (format_members ++ list_members) None (titles_ok p)
-    (members_fault-later place.Project d format_members list_members None (format_ok p) (lists_ok p)))
+    (members_fault-later place.Project d title_members (format_members ++ list_members) None (titles_ok p r)
+    (members_fault-later place.Project d format_members list_members None (format_ok p r) (lists_ok p r)))
 
 -- ---- the whole
 
-abbrev assets_of : Project → List Data
-assets_of p = map asset_data (map asset_facts p.assets)
+abbrev assets_of : ProjectFacts → List Data
+assets_of p = map asset_data p.assets
 
-abbrev pictures_of : Project → List Data
-pictures_of p = map (picture_data (map asset_facts p.assets)) (map picture_facts p.picture)
+abbrev pictures_of : ProjectFacts → List Data
+pictures_of p = map (picture_data p.assets) p.picture
 
-abbrev sounds_of : Project → List Data
-sounds_of p = map (sound_data (map asset_facts p.assets)) (map sound_facts p.sound)
+abbrev sounds_of : ProjectFacts → List Data
+sounds_of p = map (sound_data p.assets) p.sound
 
-known_assets : (p : Project) → map asset_in (list_of (items_of (assets_of p))) ≡ map asset_facts p.assets
+known_assets : (p : ProjectFacts) → map asset_in (list_of (items_of (assets_of p))) ≡ p.assets
 known_assets p = ap (map asset_in) (list_of-items_of (assets_of p)) ∙ assets_back p.assets
 
-pub project_ok : (p : Project) → project_fault (project_data (project_facts p)) ≡ None
-project_ok p =
+pub project_ok : (p : ProjectFacts) → IsProject p → project_fault (project_data p) ≡ None
+project_ok p r =
     let assets : assets_fault 0 [] (list_of (items_of (assets_of p))) ≡ None =
-    ap (assets_fault 0 []) (list_of-items_of (assets_of p)) ∙ assets_ok p.assets 0 [] p.distinct_ids (λ k d h. refl) in
+    ap (assets_fault 0 []) (list_of-items_of (assets_of p)) ∙ assets_ok p.assets 0 [] r.each_asset r.distinct_ids (λ k d h. refl) in
     let facts = known_assets p in
     let pictures : first_of (picture_fault (map asset_in (list_of (items_of (assets_of p)))) p.frames) 0 (list_of (items_of (pictures_of p))) ≡ None =
-    rw (facts, list_of-items_of (pictures_of p)) (pictures_ok p.frames p.assets 0 p.picture p.distinct_ids p.picture_fits) in
+    rw (facts, list_of-items_of (pictures_of p)) (pictures_ok p.frames p.assets 0 p.picture r.distinct_ids r.picture_fits) in
     let sounds : first_of (sound_fault (map asset_in (list_of (items_of (assets_of p)))) p.frames p.channels) 0 (list_of (items_of (sounds_of p))) ≡ None =
-    rw (facts, list_of-items_of (sounds_of p)) (sounds_ok p.frames p.channels p.assets 0 p.sound p.distinct_ids p.sound_fits) in
-    two_none _ _ (top_ok p) (two_none _ _ assets (two_none _ _ pictures sounds))
+    rw (facts, list_of-items_of (sounds_of p)) (sounds_ok p.frames p.channels p.assets 0 p.sound r.distinct_ids r.sound_fits) in
+    two_none _ _ (top_ok p r) (two_none _ _ assets (two_none _ _ pictures sounds))
 
 -- a project by its parts
-abbrev made : Project → List ℕ → List AssetFacts → List PictureFacts → List SoundFacts → ProjectFacts
+abbrev made : ProjectFacts → List ℕ → List AssetFacts → List PictureFacts → List SoundFacts → ProjectFacts
 made p namespace assets picture sound = record {
   title = p.title;
   kind = p.kind;
@@ -157,16 +156,16 @@ made p namespace assets picture sound = record {
   sound = sound;
 }
 
-made_same : (p : Project) (namespace : List ℕ) (assets : List AssetFacts) (picture : List PictureFacts) (sound : List SoundFacts)
-    → namespace ≡ p.namespace → assets ≡ map asset_facts p.assets → picture ≡ map picture_facts p.picture → sound ≡ map sound_facts p.sound
-    → made p namespace assets picture sound ≡ project_facts p
+made_same : (p : ProjectFacts) (namespace : List ℕ) (assets : List AssetFacts) (picture : List PictureFacts) (sound : List SoundFacts)
+    → namespace ≡ p.namespace → assets ≡ p.assets → picture ≡ p.picture → sound ≡ p.sound
+    → made p namespace assets picture sound ≡ p
 made_same p namespace assets picture sound a b c d = rw (a, b, c, d)
 
-pub project_back : (p : Project) → project_in (project_data (project_facts p)) ≡ project_facts p
-project_back p =
+pub project_back : (p : ProjectFacts) → IsProject p → project_in (project_data p) ≡ p
+project_back p r =
     let facts = known_assets p in
-    let pictures : map (picture_in (map asset_in (list_of (items_of (assets_of p))))) (list_of (items_of (pictures_of p))) ≡ map picture_facts p.picture =
-    rw (facts, list_of-items_of (pictures_of p)) (pictures_back p.frames p.assets p.picture p.distinct_ids p.picture_fits) in
-    let sounds : map (sound_in (map asset_in (list_of (items_of (assets_of p))))) (list_of (items_of (sounds_of p))) ≡ map sound_facts p.sound =
-    rw (facts, list_of-items_of (sounds_of p)) (sounds_back p.frames p.channels p.assets p.sound p.distinct_ids p.sound_fits) in
-    made_same p (namespace_in (project_data (project_facts p))) _ _ _ (namespace_back p.namespace p.namespace_length p.namespace_bytes) facts pictures sounds
+    let pictures : map (picture_in (map asset_in (list_of (items_of (assets_of p))))) (list_of (items_of (pictures_of p))) ≡ p.picture =
+    rw (facts, list_of-items_of (pictures_of p)) (pictures_back p.frames p.assets p.picture r.distinct_ids r.picture_fits) in
+    let sounds : map (sound_in (map asset_in (list_of (items_of (assets_of p))))) (list_of (items_of (sounds_of p))) ≡ p.sound =
+    rw (facts, list_of-items_of (sounds_of p)) (sounds_back p.frames p.channels p.assets p.sound r.distinct_ids r.sound_fits) in
+    made_same p (namespace_in (project_data p)) _ _ _ (namespace_back p.namespace r.namespace_length r.namespace_bytes) facts pictures sounds

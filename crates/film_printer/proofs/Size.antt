@@ -1,5 +1,5 @@
 -- How long the canonical text is.
-use Rattle.std.proofs.Common.{◌≡◌, ℕ, suc, ◌+◌, ◌*◌, ◌^◌, ◌<◌, ◌≤◌, ◌==◌, List, [], ◌∷◌, ◌++◌, map, length, length-append, get_or, slice_index, Bool, true, false, ◌||◌, nat_lt, nat_le, cond, decimal, refl, sym, ap, subst, arith}
+use Rattle.std.proofs.Common.{All, ◌≡◌, ℕ, suc, ◌+◌, ◌*◌, ◌^◌, ◌<◌, ◌≤◌, ◌==◌, List, [], ◌∷◌, ◌++◌, map, length, length-append, get_or, slice_index, Bool, true, false, ◌||◌, nat_lt, nat_le, cond, decimal, refl, sym, ap, subst, arith}
 use Rattle.std.specs.List.{flat_map}
 use Rattle.std.proofs.Math.Nat.{mul-suc}
 use Rattle.std.proofs.lemmas.Bool.{or_parts, not-false, leb-true}
@@ -112,7 +112,7 @@ member_size later k d ms key value rest a b c =
       c,
     )
 
-pub items_size : {X : Type 0} (f : X → Data) (most : ℕ) (later : Bool) (xs : List X) → ((x : X) → length (compact_text (f x)) ≤ most)
+pub items_size : {X : Type 0} (f : X → Data) (most : ℕ) (later : Bool) (xs : List X) → All (λ x. length (compact_text (f x)) ≤ most) xs
     → length (items_text later (items_of (map f xs))) ≤ (most + 1) * length xs + 1
 items_size f most later [] short = omega arith
 items_size f most later (x ∷ xs) short =
@@ -122,18 +122,13 @@ items_size f most later (x ∷ xs) short =
       length-append (comma_if later) (compact_text (f x) ++ rest),
       length-append (compact_text (f x)) rest,
       comma_size later,
-      short x,
-      items_size f most true xs short,
+      short 0 x (omega arith),
+      items_size f most true xs (λ k d h. short (suc k) d (omega arith)),
     ))
 
-mapped : {A B C : Type 0} (f : A → B) (g : B → C) (xs : List A) → map g (map f xs) ≡ map (λ x. g (f x)) xs
-mapped f g [] = refl
-mapped f g (x ∷ xs) = ap (λ ys. g (f x) ∷ ys) (mapped f g xs)
-
-pub mapped_size : {A B : Type 0} (f : A → B) (g : B → Data) (most : ℕ) (xs : List A) → ((x : A) → length (compact_text (g (f x))) ≤ most)
-    → length (items_text false (items_of (map g (map f xs)))) ≤ (most + 1) * length xs + 1
-mapped_size f g most xs short =
-    subst (λ ds. length (items_text false (items_of ds)) ≤ (most + 1) * length xs + 1) (sym (mapped f g xs)) (items_size (λ x. g (f x)) most false xs short)
+pub mapped_size : {X : Type 0} (f : X → Data) (most : ℕ) (xs : List X) → All (λ x. length (compact_text (f x)) ≤ most) xs
+    → length (items_text false (items_of (map f xs))) ≤ (most + 1) * length xs + 1
+mapped_size f most xs short = items_size f most false xs short
 
 -- ---- numbers
 

@@ -1,7 +1,6 @@
 ghost use Rattle.std.specs.Prelude.{◌≡◌, ◌≢◌, ◌<◌, Ok, map, length, All, IfOk, OnOk, IsTrue};
 ghost use Rattle.film_project.specs.Accepts.{accepts};
 ghost use Rattle.film_project.specs.Canonical as spec;
-ghost use Rattle.film_project.specs.Plain.{asset_facts, gain_facts, picture_facts, sound_facts, project_facts};
 ghost use Rattle.film_project.specs.Texts.{keeps};
 ghost use Rattle.film_project.specs.declared.text_rule.TextRule.TheVariants.{AnyText};
 ghost use Rattle.serde_json.specs.Data.{string};
@@ -19,17 +18,19 @@ use uuid::Uuid;
 /// their names' bytes.
 pub fn project_text(alloc: Global, project: &Project) -> Result<Bytes, NoMemory>
     ensures canonical { IfOk result
-        (λ text. text ≡ spec.canonical_text (project_facts project.now)) }
+        (λ text. text ≡ spec.canonical_text project.now) }
     ensures reads_back { IfOk result
-        (λ text. accepts text ≡ Ok (project_facts project.now)) }
+        (λ text. accepts text ≡ Ok project.now) }
     ensures short { IfOk result (λ text. length text < 4400000) }
 {
+    // What follows rests on the project's rules, which are seen where a field is.
+    let _ = &project.title;
     let value = project_value(alloc, project)?;
     Ok(Bytes::from(value.to_vec(alloc)?))
 }
 
 fn project_value(alloc: Global, project: &Project) -> Result<Value, AllocError>
-    ensures { IfOk result (λ v. view v ≡ spec.project_data (project_facts project.now)) }
+    ensures { IfOk result (λ v. view v ≡ spec.project_data project.now) }
 {
     let mut members = Map::new(alloc);
     put_numbers(alloc, &mut members, project)?;
@@ -44,7 +45,7 @@ fn put_numbers(
     project: &Project,
 ) -> Result<(), AllocError>
     ensures { OnOk result (members_view members.new.entries
-        ≡ spec.with_numbers (project_facts project.now) (members_view members.old.entries)) }
+        ≡ spec.with_numbers project.now (members_view members.old.entries)) }
 {
     put(members, alloc, "channels", Value::from(project.channels))?;
     put(members, alloc, "fps", Value::from(project.fps))?;
@@ -61,7 +62,7 @@ fn put_texts(
     project: &Project,
 ) -> Result<(), AllocError>
     ensures { OnOk result (members_view members.new.entries
-        ≡ spec.with_texts (project_facts project.now) (members_view members.old.entries)) }
+        ≡ spec.with_texts project.now (members_view members.old.entries)) }
 {
     let issued = text_value(alloc, TextRule::Issued, project.issued.as_slice())?;
     put(members, alloc, "issued", issued)?;
@@ -79,7 +80,7 @@ fn put_lists(
     project: &Project,
 ) -> Result<(), AllocError>
     ensures { OnOk result (members_view members.new.entries
-        ≡ spec.with_lists (project_facts project.now) (members_view members.old.entries)) }
+        ≡ spec.with_lists project.now (members_view members.old.entries)) }
 {
     let assets = project.assets.as_slice();
     let values = asset_values(alloc, assets)?;
@@ -114,7 +115,7 @@ fn namespace_value(alloc: Global, namespace: [u8; 16]) -> Result<Value, AllocErr
 
 fn asset_values(alloc: Global, assets: &[Asset]) -> Result<Vec<Value>, AllocError>
     ensures { IfOk result
-        (λ vs. map view vs.items ≡ map spec.asset_data (map asset_facts assets.now)) }
+        (λ vs. map view vs.items ≡ map spec.asset_data assets.now) }
 {
     let mut values = Vec::with_capacity(alloc, assets.len())?;
     for asset in assets {
@@ -124,7 +125,7 @@ fn asset_values(alloc: Global, assets: &[Asset]) -> Result<Vec<Value>, AllocErro
 }
 
 fn asset_value(alloc: Global, asset: &Asset) -> Result<Value, AllocError>
-    ensures { IfOk result (λ v. view v ≡ spec.asset_data (asset_facts asset.now)) }
+    ensures { IfOk result (λ v. view v ≡ spec.asset_data asset.now) }
 {
     let file = text_value(alloc, TextRule::File, asset.file.as_slice())?;
     let id = text_value(alloc, TextRule::Id, asset.id.as_slice())?;
@@ -147,7 +148,7 @@ fn kind_word(kind: AssetKind) -> &'static str
 fn id_value(alloc: Global, assets: &[Asset], place: u32) -> Result<Value, AllocError>
     requires { place < length assets.now }
     ensures { IfOk result
-        (λ v. view v ≡ string (spec.id_at (map asset_facts assets.now) place)) }
+        (λ v. view v ≡ string (spec.id_at assets.now place)) }
 {
     let asset = &assets[place as usize];
     text_value(alloc, TextRule::Id, asset.id.as_slice())
@@ -160,7 +161,7 @@ fn picture_values(
 ) -> Result<Vec<Value>, AllocError>
     requires { All (λ clip. clip.asset < length assets.now) clips.now }
     ensures { IfOk result (λ vs. map view vs.items
-        ≡ map (spec.picture_data (map asset_facts assets.now)) (map picture_facts clips.now)) }
+        ≡ map (spec.picture_data assets.now) clips.now) }
 {
     let mut values = Vec::with_capacity(alloc, clips.len())?;
     for clip in clips {
@@ -172,7 +173,7 @@ fn picture_values(
 fn picture_value(alloc: Global, clip: &PictureClip, assets: &[Asset]) -> Result<Value, AllocError>
     requires { clip.now.asset < length assets.now }
     ensures { IfOk result (λ v. view v
-        ≡ spec.picture_data (map asset_facts assets.now) (picture_facts clip.now)) }
+        ≡ spec.picture_data assets.now clip.now) }
 {
     let asset = id_value(alloc, assets, clip.asset)?;
     json!(in alloc; {
@@ -191,7 +192,7 @@ fn sound_values(
 ) -> Result<Vec<Value>, AllocError>
     requires { All (λ clip. clip.asset < length assets.now) clips.now }
     ensures { IfOk result (λ vs. map view vs.items
-        ≡ map (spec.sound_data (map asset_facts assets.now)) (map sound_facts clips.now)) }
+        ≡ map (spec.sound_data assets.now) clips.now) }
 {
     let mut values = Vec::with_capacity(alloc, clips.len())?;
     for clip in clips {
@@ -203,7 +204,7 @@ fn sound_values(
 fn sound_value(alloc: Global, clip: &SoundClip, assets: &[Asset]) -> Result<Value, AllocError>
     requires { clip.now.asset < length assets.now }
     ensures { IfOk result (λ v. view v
-        ≡ spec.sound_data (map asset_facts assets.now) (sound_facts clip.now)) }
+        ≡ spec.sound_data assets.now clip.now) }
 {
     let asset = id_value(alloc, assets, clip.asset)?;
     let gains = gain_values(alloc, clip.gains.as_slice())?;
@@ -218,7 +219,7 @@ fn sound_value(alloc: Global, clip: &SoundClip, assets: &[Asset]) -> Result<Valu
 
 fn gain_values(alloc: Global, gains: &[Gain]) -> Result<Vec<Value>, AllocError>
     ensures { IfOk result
-        (λ vs. map view vs.items ≡ map spec.gain_data (map gain_facts gains.now)) }
+        (λ vs. map view vs.items ≡ map spec.gain_data gains.now) }
 {
     let mut values = Vec::with_capacity(alloc, gains.len())?;
     for gain in gains {
@@ -228,7 +229,7 @@ fn gain_values(alloc: Global, gains: &[Gain]) -> Result<Vec<Value>, AllocError>
 }
 
 fn gain_value(alloc: Global, gain: &Gain) -> Result<Value, AllocError>
-    ensures { IfOk result (λ v. view v ≡ spec.gain_data (gain_facts gain.now)) }
+    ensures { IfOk result (λ v. view v ≡ spec.gain_data gain.now) }
 {
     json!(in alloc; [gain.from, gain.to, gain.gain])
 }

@@ -1,9 +1,11 @@
 -- Steps of walks over lists and places.
-use Rattle.std.proofs.Common.{String, Global, string_bytes, ◌++◌, append_assoc, ◌≡◌, ℕ, suc, ◌+◌, ◌-◌, ◌<◌, List, [], ◌∷◌, Bool, true, false, Option, Some, None, refl, ap, sym, ◌∙◌, arith, map, length, drop, get_or}
+use Rattle.std.proofs.Common.{String, Global, string_bytes, ◌++◌, append_assoc, ◌≡◌, ℕ, suc, ◌+◌, ◌-◌, ◌<◌, List, [], ◌∷◌, Bool, true, false, Option, Some, None, refl, ap, sym, ◌∙◌, arith, map, length, drop, get_or, codes}
 use Rattle.film_project.specs.Texts.{first_place}
 use Rattle.std.specs.Option.{option_or}
 use Rattle.std.proofs.lemmas.List.{map-append, drop_more}
-use Rattle.film_project.specs.Members.{list_of, first_of, Member, member_fault, members_fault}
+use Rattle.film_project.specs.Accepts.{asset_in, asset_fault, assets_fault}
+use Rattle.film_project.specs.Facts.{AssetFacts}
+use Rattle.film_project.specs.Members.{text_in, list_of, first_of, Member, member_fault, members_fault}
 use Rattle.film_project.specs.Names.{member_name}
 use Rattle.film_project.specs.Objects.{unknown_fault}
 use Rattle.film_project.specs.declared.place.Place.{Place}
@@ -53,13 +55,21 @@ pub first_of-next : {X : Type 0} (fault : ℕ → X → Option ProjectRefusal) (
     → xs ≡ x ∷ rest → fault i x ≡ None → first_of fault i xs ≡ first_of fault (i + 1) rest
 first_of-next fault i xs x rest here e = rw (here, e)
 
+-- an asset without a fault, behind those that were found
+pub assets_fault-next : (i : ℕ) (found : List AssetFacts) (a : AssetFacts) (ds : List Data) (d : Data) (rest : List Data)
+    → ds ≡ d ∷ rest → asset_fault i (map (λ a. a.id) found) d ≡ None → a ≡ asset_in d
+    → assets_fault i (map (λ a. a.id) found) ds ≡ assets_fault (i + 1) (map (λ a. a.id) (found ++ a ∷ [])) rest
+assets_fault-next i found a ds d rest here none same =
+    let ids : map (λ a. a.id) found ++ text_in (codes "id") d ∷ [] ≡ map (λ a. a.id) (found ++ a ∷ []) =
+    ap (λ b. map (λ a. a.id) found ++ b.id ∷ []) (sym same) ∙ sym (map-append (λ a. a.id) found (a ∷ [])) in
+    rw (here, none) (ap (λ seen. assets_fault (i + 1) seen rest) ids)
+
 -- ---- what a loop has gathered, and what it still has to
 
-pub gather-next : {A B X : Type 0} (f : A → B) (g : X → B) (done : List A) (a : A) (xs : List X) (x : X) (rest : List X) (all : List B)
-    → xs ≡ x ∷ rest → f a ≡ g x → map f done ++ map g xs ≡ all → map f (done ++ a ∷ []) ++ map g rest ≡ all
-gather-next f g done a xs x rest all here same e =
-    ap (λ ys. ys ++ map g rest) (map-append f done (a ∷ [])) ∙ append_assoc (map f done) (f a ∷ []) (map g rest)
-    ∙ ap (λ b. map f done ++ b ∷ map g rest) same ∙ ap (λ ys. map f done ++ map g ys) (sym here) ∙ e
+pub gather-more : {B X : Type 0} (g : X → B) (done : List B) (a : B) (xs : List X) (x : X) (rest : List X) (all : List B)
+    → xs ≡ x ∷ rest → a ≡ g x → done ++ map g xs ≡ all → (done ++ a ∷ []) ++ map g rest ≡ all
+gather-more g done a xs x rest all here same e =
+    append_assoc done (a ∷ []) (map g rest) ∙ ap (λ b. done ++ b ∷ map g rest) same ∙ ap (λ ys. done ++ map g ys) (sym here) ∙ e
 
 -- ---- one fault after another
 

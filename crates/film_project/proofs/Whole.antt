@@ -6,7 +6,7 @@ use Rattle.std.proofs.lemmas.Str.{is_utf8-from_IsUtf8, IsUtf8-from_is_utf8}
 use Rattle.serde_json.specs.Data.{Data}
 use Rattle.serde_json.specs.Read.{read}
 use Rattle.film_project.specs.Accepts.{accepts, accepts_value, json_value, project_fault, project_in, project_or}
-use Rattle.film_project.specs.Answers.{AnswersAs, IsAnswer}
+use Rattle.film_project.specs.Answers.{Answers, IsAnswer}
 use Rattle.film_project.specs.Facts.{ProjectFacts}
 use Rattle.film_project.specs.declared.refusal.ProjectRefusal.{ProjectRefusal}
 use Rattle.film_project.specs.declared.refusal.ProjectRefusal.TheVariants.{NotJson}
@@ -30,8 +30,7 @@ unread false r e = refl
 pub accepts-refused : (text : List ℕ) → length text ≤ 8388608 → (IsUtf8 text → read text ≡ None) → accepts text ≡ Err NotJson
 accepts-refused text short e = rw (not_long (length text) short) (unread (is_utf8 text) (read text) (λ u. e (IsUtf8-from_is_utf8 text u)))
 
-pub IsAnswer-parts : {T : Type 0} (seen : T → ProjectFacts) (r : Result T ProjectRefusal) (fault : Option ProjectRefusal) (value : ProjectFacts)
-    (wanted : Result ProjectFacts ProjectRefusal)
-    → AnswersAs seen r fault value → wanted ≡ project_or fault value → IsAnswer seen r wanted
-IsAnswer-parts seen (Ok x) fault value wanted a e = ap Ok a.1 ∙ (sym (ap (λ f. project_or f value) a.0) ∙ sym e)
-IsAnswer-parts seen (Err refusal) fault value wanted a e = λ h. sym (ap (λ f. project_or f value) (a h)) ∙ sym e
+pub IsAnswer-parts : (r : Result ProjectFacts ProjectRefusal) (fault : Option ProjectRefusal) (value : ProjectFacts) (wanted : Result ProjectFacts ProjectRefusal)
+    → Answers r fault value → wanted ≡ project_or fault value → IsAnswer r wanted
+IsAnswer-parts (Ok x) fault value wanted a e = ap Ok a.1 ∙ (sym (ap (λ f. project_or f value) a.0) ∙ sym e)
+IsAnswer-parts (Err refusal) fault value wanted a e = λ h. sym (ap (λ f. project_or f value) (a h)) ∙ sym e

@@ -37,6 +37,6 @@ AsksWhole (Ok n) place name d = as_whole d ≡ Some n
 AsksWhole (Err e) place name d = e ≢ NoMemory → (as_whole d ≡ None) × (e ≡ WrongKind (member_name place name))
 
 -- the answer of the definition, unless memory ran out
-abbrev pub IsAnswer : {T U : Type 0} → (T → U) → Result T ProjectRefusal → Result U ProjectRefusal → Type 0
-IsAnswer seen (Ok x) wanted = Ok (seen x) ≡ wanted
-IsAnswer seen (Err e) wanted = e ≢ NoMemory → Err e ≡ wanted
+abbrev pub IsAnswer : {T : Type 0} → Result T ProjectRefusal → Result T ProjectRefusal → Type 0
+IsAnswer (Ok x) wanted = Ok x ≡ wanted
+IsAnswer (Err e) wanted = e ≢ NoMemory → Err e ≡ wanted

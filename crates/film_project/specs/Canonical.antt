@@ -1,10 +1,10 @@
 -- The canonical JSON (RFC 8259) of a project: all members are there, in the order of their names' bytes.
-use Rattle.std.specs.Prelude.{ℕ, List, ◌∷◌, [], map, codes, slice_index_or}
+use Rattle.std.specs.Prelude.{ℕ, List, ◌∷◌, [], map, codes}
 use Rattle.serde_json.specs.Data.{Data, number, unsigned, string, array, object, Members, member, no_members, put}
 use Rattle.serde_json.specs.View.{items_of}
 use Rattle.serde_json.specs.Written.{compact_text}
 use Rattle.uuid.specs.Text.{hyphenated_text, lower}
-use Rattle.film_project.specs.Facts.{no_asset, AssetFacts, PictureFacts, GainFacts, SoundFacts, ProjectFacts}
+use Rattle.film_project.specs.Facts.{nth_asset, AssetFacts, PictureFacts, GainFacts, SoundFacts, ProjectFacts}
 use Rattle.film_project.specs.declared.asset.AssetKind.{AssetKind}
 use Rattle.film_project.specs.declared.asset.AssetKind.TheVariants.{Rgb48, Ppm, J2c, Pcm24}
 
@@ -28,7 +28,7 @@ asset_data a =
     (member (codes "kind") (string (kind_word a.kind)) no_members))))
 
 abbrev pub id_at : List AssetFacts → ℕ → List ℕ
-id_at assets i = (slice_index_or assets i no_asset).id
+id_at assets i = (nth_asset assets i).id
 
 abbrev pub picture_data : List AssetFacts → PictureFacts → Data
 picture_data assets c =

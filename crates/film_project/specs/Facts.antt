@@ -49,6 +49,9 @@ pub record ProjectFacts : Type 0 where
 abbrev pub no_asset : AssetFacts
 no_asset = record { id = []; kind = Rgb48; file = []; channels = 0 }
 
--- the asset at this place of the project's list
+-- the asset at this place of a list, and of the project's
+abbrev pub nth_asset : List AssetFacts → ℕ → AssetFacts
+nth_asset assets place = slice_index_or assets place no_asset
+
 abbrev pub asset_at : ProjectFacts → ℕ → AssetFacts
-asset_at project place = slice_index_or project.assets place no_asset
+asset_at project place = nth_asset project.assets place

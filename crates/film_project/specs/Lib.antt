@@ -2,10 +2,10 @@ pub mod Accepts
 pub mod Answers
 pub mod Canonical
 pub mod Facts
-pub mod Fits
 pub mod Members
 pub mod Names
 pub mod Objects
-pub mod Plain
 pub mod Refusals
+pub mod Rules
 pub mod Texts
+pub mod Views

@@ -1,9 +1,5 @@
-ghost use Rattle.std.specs.Prelude.{◌≡◌, ◌≢◌, ◌≤◌, IsTrue};
-ghost use Rattle.film_project.specs.Texts.{keeps};
-ghost use Rattle.film_project.specs.declared.asset.AssetKind.TheVariants.{Pcm24};
-ghost use Rattle.film_project.specs.declared.text_rule.TextRule.TheVariants.{Id, File};
-
 use mast_base::Bytes;
+use std::marker::Model;
 
 /// How an asset's files hold its frames or samples.
 #[derive(Clone, Copy, Debug, PartialEq, Eq)]
@@ -26,9 +22,17 @@ pub struct Asset {
     pub file: Bytes,
     /// The channels of sound: 0 for pictures.
     pub channels: u8,
-    pub ghost id_kept: { IsTrue (keeps Id id) },
-    pub ghost file_kept: { IsTrue (keeps File file) },
-    pub ghost most_channels: { channels ≤ 16 },
-    pub ghost some_channels: { kind ≡ Pcm24 → 1 ≤ channels },
-    pub ghost no_channels: { kind ≢ Pcm24 → channels ≡ 0 },
+}
+
+impl Model for Asset {
+    ghost use Rattle.film_project.specs.Facts.{AssetFacts};
+
+    ghost Value = { AssetFacts };
+
+    ghost use Rattle.film_project.specs.Rules.{IsAsset};
+    ghost use Rattle.film_project.specs.Views.{asset_of};
+
+    ghost view = { asset_of };
+
+    ghost invariant = { λ a. IsAsset (asset_of a) };
 }

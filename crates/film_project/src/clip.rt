@@ -1,6 +1,5 @@
-ghost use Rattle.std.specs.Prelude.{◌≤◌, ◌<◌, length};
-
 use mast_base::List;
+use std::marker::Model;
 
 /// Shows frames `from` and on of an asset, each `hold` times, in the frames `at` and on.
 #[derive(Clone, Copy, Debug)]
@@ -11,12 +10,21 @@ pub struct PictureClip {
     pub from: u32,
     pub count: u32,
     pub hold: u32,
-    pub ghost at_in_range: { at ≤ 431_999 },
-    pub ghost from_in_range: { from ≤ 999_999 },
-    pub ghost some_count: { 1 ≤ count },
-    pub ghost most_count: { count ≤ 432_000 },
-    pub ghost some_hold: { 1 ≤ hold },
-    pub ghost most_hold: { hold ≤ 100 },
+}
+
+impl Model for PictureClip {
+    ghost use Rattle.film_project.specs.Facts.{PictureFacts};
+
+    ghost Value = { PictureFacts };
+
+    ghost use Rattle.film_project.specs.Rules.{IsPictureClip};
+    ghost use Rattle.film_project.specs.Views.{picture_of};
+
+    ghost view = { picture_of };
+
+    ghost invariant = { λ c. IsPictureClip (picture_of c) };
+
+    ghost inverse = { λ f. record { asset = f.asset; at = f.at; from = f.from; count = f.count; hold = f.hold } };
 }
 
 /// Adds one channel of an asset to one channel of the project.
@@ -28,9 +36,21 @@ pub struct Gain {
     pub to: u8,
     /// In 1/65536.
     pub gain: u32,
-    pub ghost from_in_range: { from < 16 },
-    pub ghost to_in_range: { to < 16 },
-    pub ghost gain_in_range: { gain ≤ 262_144 },
+}
+
+impl Model for Gain {
+    ghost use Rattle.film_project.specs.Facts.{GainFacts};
+
+    ghost Value = { GainFacts };
+
+    ghost use Rattle.film_project.specs.Rules.{IsGain};
+    ghost use Rattle.film_project.specs.Views.{gain_of};
+
+    ghost view = { gain_of };
+
+    ghost invariant = { λ g. IsGain (gain_of g) };
+
+    ghost inverse = { λ f. record { from = f.from; to = f.to; gain = f.gain } };
 }
 
 /// Plays the samples of frames `from` and on of an asset in the frames `at` and on.
@@ -42,9 +62,17 @@ pub struct SoundClip {
     pub from: u32,
     pub count: u32,
     pub gains: List<Gain>,
-    pub ghost at_in_range: { at ≤ 431_999 },
-    pub ghost from_in_range: { from ≤ 999_999 },
-    pub ghost some_count: { 1 ≤ count },
-    pub ghost most_count: { count ≤ 432_000 },
-    pub ghost most_gains: { length gains ≤ 256 },
+}
+
+impl Model for SoundClip {
+    ghost use Rattle.film_project.specs.Facts.{SoundFacts};
+
+    ghost Value = { SoundFacts };
+
+    ghost use Rattle.film_project.specs.Rules.{IsSoundClip};
+    ghost use Rattle.film_project.specs.Views.{sound_of};
+
+    ghost view = { sound_of };
+
+    ghost invariant = { λ c. IsSoundClip (sound_of c) };
 }

@@ -3,6 +3,7 @@
 
 mod asset;
 mod clip;
+mod copy;
 mod place;
 mod project;
 mod refusal;

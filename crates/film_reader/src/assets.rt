@@ -1,11 +1,11 @@
-ghost use Rattle.std.specs.Prelude.{◌↔◌, IsTrue, IsFalse, ◌≡◌, ◌≢◌, ◌≤◌, ◌<◌, codes, [], true, false, map, length, All, AllPairs, IfOk, IfSome, option_map, slice_index_or};
+ghost use Rattle.std.specs.Prelude.{◌↔◌, IsTrue, IsFalse, ◌≡◌, ◌≢◌, ◌≤◌, ◌<◌, codes, [], true, false, map, length, All, AllPairs, IfOk, IfSome, option_map};
 ghost use Rattle.film_project.specs.Accepts as spec;
-ghost use Rattle.film_project.specs.Answers.{Answers, AnswersAs, Refuses};
+ghost use Rattle.film_project.specs.Answers.{Answers, Refuses};
 ghost use Rattle.film_project.specs.Members.{member_fault, members_fault, number_in, text_in};
 ghost use Rattle.film_project.specs.Objects as table;
-ghost use Rattle.film_project.specs.Plain.{asset_facts};
+ghost use Rattle.film_project.specs.Facts.{nth_asset};
+ghost use Rattle.film_project.specs.Rules.{IsAsset};
 ghost use Rattle.film_project.specs.Texts as texts;
-ghost use Rattle.film_project.specs.declared.asset.Asset.{Asset};
 ghost use Rattle.film_project.specs.declared.asset.AssetKind.TheVariants.{Pcm24};
 ghost use Rattle.film_project.specs.declared.text_rule.TextRule.TheVariants as rule;
 ghost use Rattle.serde_json.specs.Find.{as_object};
@@ -21,10 +21,11 @@ use std::alloc::Global;
 
 /// The assets, whose ids differ.
 pub(crate) fn read_assets(alloc: Global, items: &[Value]) -> Result<List<Asset>, ProjectRefusal>
-    ensures answer { AnswersAs (map asset_facts) result
+    ensures answer { Answers result
         (spec.assets_fault 0 [] (map view items.now))
         (map spec.asset_in (map view items.now)) }
     ensures length { IfOk result (λ assets. length assets ≡ length items.now) }
+    ensures kept { IfOk result (All IsAsset) }
     ensures distinct { IfOk result (AllPairs (λ a b. a.id ≢ b.id)) }
 {
     let mut found = List::new(alloc);
@@ -41,9 +42,10 @@ fn read_asset(
     index: usize,
     earlier: &[Asset],
 ) -> Result<Asset, ProjectRefusal>
-    ensures answer { AnswersAs asset_facts result
+    ensures answer { Answers result
         (spec.asset_fault index (map (λ a. a.id) earlier.now) (view value.now))
         (spec.asset_in (view value.now)) }
+    ensures kept { IfOk result IsAsset }
     ensures new { IfOk result (λ asset. All (λ a. a.id ≢ asset.id) earlier.now) }
 {
     let place = Place::Asset(index);
@@ -167,11 +169,11 @@ fn has_id(assets: &[Asset], id: &[u8]) -> bool
 
 /// The first asset of that id, and its place.
 pub(crate) fn find_asset<'a>(assets: &'a [Asset], id: &[u8]) -> Option<(usize, &'a Asset)>
-    ensures first { option_map (λ p. (p.0, asset_facts p.1.now)) result
-        ≡ spec.find_asset id.now 0 (map asset_facts assets.now) }
+    ensures first { option_map (λ p. (p.0, p.1.now)) result
+        ≡ spec.find_asset id.now 0 assets.now }
     ensures within { IfSome result (λ p. p.0 < length assets.now) }
     ensures asset { IfSome result
-        (λ p. (none : Asset) → slice_index_or assets.now p.0 none ≡ p.1.now) }
+        (λ p. nth_asset assets.now p.0 ≡ p.1.now) }
 {
     for (index, asset) in assets.iter().enumerate() {
         if asset.id.as_slice() == id {

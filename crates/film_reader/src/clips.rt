@@ -1,14 +1,13 @@
 ghost use Rattle.std.specs.Prelude.{◌≡◌, ◌≢◌, ◌≤◌, ◌<◌, ◌+◌, codes, false, true, map, length, All, IfOk, IsOk, IsSomeAnd, option_map, slice_index_or};
 ghost use Rattle.film_project.specs.Accepts as spec;
-ghost use Rattle.film_project.specs.Answers.{Answers, AnswersAs, Refuses};
+ghost use Rattle.film_project.specs.Answers.{Answers, Refuses};
 ghost use Rattle.film_reader.specs.Clips.{IsMembers};
-ghost use Rattle.film_project.specs.Fits.{GainFits, PictureFits, SoundFits};
+ghost use Rattle.film_project.specs.Rules.{FitsGain, FitsPicture, FitsSound};
 ghost use Rattle.film_project.specs.Members.{first_of, gain_of, list_in, members_fault, number_in, text_in};
 ghost use Rattle.film_project.specs.Names.{member_name};
 ghost use Rattle.film_project.specs.Objects as table;
 ghost use Rattle.film_project.specs.Objects.{carries_sound as sounds};
 ghost use Rattle.film_project.specs.Texts.{is_one_of};
-ghost use Rattle.film_project.specs.Plain.{asset_facts, gain_facts, picture_facts, sound_facts};
 ghost use Rattle.serde_json.specs.Find.{as_object};
 ghost use Rattle.serde_json.specs.View.{view};
 
@@ -30,11 +29,11 @@ pub(crate) fn read_picture(
 ) -> Result<List<PictureClip>, ProjectRefusal>
     requires frames { frames ≤ 432000 }
     requires assets { length assets.now ≤ 1000 }
-    ensures answer { AnswersAs (map picture_facts) result
-        (first_of (spec.picture_fault (map asset_facts assets.now) frames) 0 (map view items.now))
-        (map (spec.picture_in (map asset_facts assets.now)) (map view items.now)) }
+    ensures answer { Answers result
+        (first_of (spec.picture_fault assets.now frames) 0 (map view items.now))
+        (map (spec.picture_in assets.now) (map view items.now)) }
     ensures length { IfOk result (λ clips. length clips ≡ length items.now) }
-    ensures fits { IfOk result (All (PictureFits frames assets.now)) }
+    ensures fits { IfOk result (All (FitsPicture frames assets.now)) }
 {
     let mut found = List::new(alloc);
     for (index, item) in items.iter().enumerate() {
@@ -52,10 +51,10 @@ fn read_picture_clip(
 ) -> Result<PictureClip, ProjectRefusal>
     requires frames { frames ≤ 432000 }
     requires assets { length assets.now ≤ 1000 }
-    ensures answer { AnswersAs picture_facts result
-        (spec.picture_fault (map asset_facts assets.now) frames index (view value.now))
-        (spec.picture_in (map asset_facts assets.now) (view value.now)) }
-    ensures fits { IfOk result (PictureFits frames assets.now) }
+    ensures answer { Answers result
+        (spec.picture_fault assets.now frames index (view value.now))
+        (spec.picture_in assets.now (view value.now)) }
+    ensures fits { IfOk result (FitsPicture frames assets.now) }
 {
     let place = Place::Picture(index);
     check_picture(alloc, value, place)?;
@@ -143,8 +142,8 @@ fn clip_asset(
     sound: bool,
 ) -> Result<usize, ProjectRefusal>
     ensures answer { Answers result
-        (spec.found_fault (member_name place (codes "asset")) sound (option_map (λ p. (p.0, asset_facts p.1.now)) found.entry))
-        (spec.place_in (option_map (λ p. (p.0, asset_facts p.1.now)) found.entry)) }
+        (spec.found_fault (member_name place (codes "asset")) sound (option_map (λ p. (p.0, p.1.now)) found.entry))
+        (spec.place_in (option_map (λ p. (p.0, p.1.now)) found.entry)) }
     ensures kind { IfOk result
         (λ i. IsSomeAnd found.entry (λ p. (p.0 ≡ i) × (sounds p.1.now.kind ≡ sound))) }
 {
@@ -168,11 +167,11 @@ pub(crate) fn read_sound(
     requires frames { frames ≤ 432000 }
     requires channels { channels ≤ 16 }
     requires assets { length assets.now ≤ 1000 }
-    ensures answer { AnswersAs (map sound_facts) result
-        (first_of (spec.sound_fault (map asset_facts assets.now) frames channels) 0 (map view items.now))
-        (map (spec.sound_in (map asset_facts assets.now)) (map view items.now)) }
+    ensures answer { Answers result
+        (first_of (spec.sound_fault assets.now frames channels) 0 (map view items.now))
+        (map (spec.sound_in assets.now) (map view items.now)) }
     ensures length { IfOk result (λ clips. length clips ≡ length items.now) }
-    ensures fits { IfOk result (All (SoundFits frames channels assets.now)) }
+    ensures fits { IfOk result (All (FitsSound frames channels assets.now)) }
 {
     let mut found = List::new(alloc);
     for (index, item) in items.iter().enumerate() {
@@ -192,10 +191,10 @@ fn read_sound_clip(
     requires frames { frames ≤ 432000 }
     requires channels { channels ≤ 16 }
     requires assets { length assets.now ≤ 1000 }
-    ensures answer { AnswersAs sound_facts result
-        (spec.sound_fault (map asset_facts assets.now) frames channels index (view value.now))
-        (spec.sound_in (map asset_facts assets.now) (view value.now)) }
-    ensures fits { IfOk result (SoundFits frames channels assets.now) }
+    ensures answer { Answers result
+        (spec.sound_fault assets.now frames channels index (view value.now))
+        (spec.sound_in assets.now (view value.now)) }
+    ensures fits { IfOk result (FitsSound frames channels assets.now) }
 {
     let place = Place::Sound(index);
     check_sound(alloc, value, place)?;
@@ -238,9 +237,9 @@ fn read_sound_members<'v>(
         (members_fault place (view value.now) (table.sound_members frames inputs outputs (view value.now))) }
     ensures members { IfOk result (λ p. IsMembers frames p.0 (view value.now)) }
     ensures gains { IfOk result
-        (λ p. map gain_facts p.1 ≡ map gain_of (list_in (codes "gains") (view value.now))) }
+        (λ p. p.1 ≡ map gain_of (list_in (codes "gains") (view value.now))) }
     ensures most_gains { IfOk result (λ p. length p.1 ≤ 256) }
-    ensures fits { IfOk result (λ p. All (GainFits inputs outputs) p.1) }
+    ensures fits { IfOk result (λ p. All (FitsGain inputs outputs) p.1) }
 {
     let members = read_members(alloc, value, place, frames)?;
     let gains = read_gains(alloc, value, place, inputs as u64, outputs as u64)?;
@@ -262,7 +261,7 @@ fn check_sound(alloc: Global, value: &Value, place: Place) -> Result<(), Project
 /// The channels of a clip's asset. Where there is no such asset, a channel need only be below 16.
 fn input_channels(found: Option<(usize, &Asset)>) -> u8
     ensures value { result
-        ≡ spec.input_channels (option_map (λ p. (p.0, asset_facts p.1.now)) found.entry) }
+        ≡ spec.input_channels (option_map (λ p. (p.0, p.1.now)) found.entry) }
     ensures most { result ≤ 16 }
 {
     match found {

@@ -1,12 +1,11 @@
 ghost use Rattle.std.specs.Prelude.{◌≡◌, ◌≢◌, ◌≤◌, ◌<◌, codes, Some, map, option_map, length, All, IfOk};
-ghost use Rattle.film_project.specs.Answers.{AnswersAs, Refuses};
-ghost use Rattle.film_project.specs.Fits.{GainFits};
+ghost use Rattle.film_project.specs.Answers.{Answers, AnswersAs};
+ghost use Rattle.film_project.specs.Rules.{FitsGain};
 ghost use Rattle.film_reader.specs.Gains.{raw_facts};
 ghost use Rattle.film_project.specs.Members as spec;
 ghost use Rattle.film_project.specs.Members.{first_of, gain_kind_fault, gain_range_fault, gain_of, gains_fault, list_in, member_fault};
 ghost use Rattle.film_project.specs.Names.{member_name, item_name};
 ghost use Rattle.film_project.specs.Objects.{required};
-ghost use Rattle.film_project.specs.Plain.{gain_facts};
 ghost use Rattle.film_project.specs.declared.refusal.ProjectRefusal.TheVariants.{NoMemory, OutOfRange};
 ghost use Rattle.serde_json.specs.View.{view};
 
@@ -35,11 +34,11 @@ pub(crate) fn read_gains(
 ) -> Result<List<Gain>, ProjectRefusal>
     requires inputs { inputs ≤ 16 }
     requires outputs { outputs ≤ 16 }
-    ensures answer { AnswersAs (map gain_facts) result
+    ensures answer { Answers result
         (member_fault place (view clip.now) (required (codes "gains") (spec.gains inputs outputs)))
         (map gain_of (list_in (codes "gains") (view clip.now))) }
     ensures most { IfOk result (λ gains. length gains ≤ 256) }
-    ensures fits { IfOk result (All (GainFits inputs outputs)) }
+    ensures fits { IfOk result (All (FitsGain inputs outputs)) }
 {
     let value = find_member(alloc, clip, place, "gains")?;
     let Some(items) = as_list(value) else {
@@ -59,11 +58,11 @@ fn read_gain_list(
 ) -> Result<List<Gain>, ProjectRefusal>
     requires inputs { inputs ≤ 16 }
     requires outputs { outputs ≤ 16 }
-    ensures answer { AnswersAs (map gain_facts) result
+    ensures answer { Answers result
         (gains_fault (member_name place (codes "gains")) inputs outputs (Some (map view items.now)))
         (map gain_of (map view items.now)) }
     ensures most { IfOk result (λ gains. length gains ≤ 256) }
-    ensures fits { IfOk result (All (GainFits inputs outputs)) }
+    ensures fits { IfOk result (All (FitsGain inputs outputs)) }
 {
     let raw = read_raw_gains(alloc, place, items)?;
     if items.len() > 256 {
@@ -123,11 +122,11 @@ fn read_ranges(
 ) -> Result<List<Gain>, ProjectRefusal>
     requires inputs { inputs ≤ 16 }
     requires outputs { outputs ≤ 16 }
-    ensures answer { AnswersAs (map gain_facts) result
+    ensures answer { Answers result
         (first_of (gain_range_fault (member_name place (codes "gains")) inputs outputs) 0 (map raw_facts raw.now))
         (map raw_facts raw.now) }
     ensures length { IfOk result (λ gains. length gains ≡ length raw.now) }
-    ensures fits { IfOk result (All (GainFits inputs outputs)) }
+    ensures fits { IfOk result (All (FitsGain inputs outputs)) }
 {
     let mut found = List::new(alloc);
     for (index, item) in raw.iter().enumerate() {
@@ -146,10 +145,10 @@ fn read_range(
 ) -> Result<Gain, ProjectRefusal>
     requires inputs { inputs ≤ 16 }
     requires outputs { outputs ≤ 16 }
-    ensures answer { AnswersAs gain_facts result
+    ensures answer { Answers result
         (gain_range_fault (member_name place (codes "gains")) inputs outputs index (raw_facts raw))
         (raw_facts raw) }
-    ensures fits { IfOk result (GainFits inputs outputs) }
+    ensures fits { IfOk result (FitsGain inputs outputs) }
 {
     if raw.from >= inputs {
         return Err(item_out_of_range(alloc, place, index, raw.from));

@@ -1,9 +1,8 @@
 ghost use Rattle.std.specs.Prelude.{◌≡◌, ◌≤◌, ◌<◌, Some, codes, map, length, All, IfOk, IsTrue};
 ghost use Rattle.film_project.specs.Accepts as spec;
-ghost use Rattle.film_project.specs.Answers.{Answers, AnswersAs, Refuses, IsAnswer};
+ghost use Rattle.film_project.specs.Answers.{Answers, Refuses, IsAnswer};
 ghost use Rattle.film_project.specs.Members.{is_frame_rate, member_fault, members_fault, number_in, text_in, list_in, text};
 ghost use Rattle.film_project.specs.Objects.{required, title_members, format_members, list_members, project_members};
-ghost use Rattle.film_project.specs.Plain.{project_facts};
 ghost use Rattle.film_reader.specs.Top.{AreTitles, IsFormat, AreLists};
 ghost use Rattle.film_project.specs.Texts.{keeps};
 ghost use Rattle.film_project.specs.declared.place.Place.TheVariants.{Project as Top};
@@ -28,7 +27,7 @@ const GREATEST_TEXT: usize = 8_388_608;
 /// whole text, then the top object, the assets, the picture clips and the sound clips, each by its
 /// unknown members and then by its members in their order.
 pub fn read_project(alloc: Global, text: &[u8]) -> Result<Project, ProjectRefusal>
-    ensures { IsAnswer project_facts result (spec.accepts text.now) }
+    ensures { IsAnswer result (spec.accepts text.now) }
 {
     if text.len() > GREATEST_TEXT {
         return Err(ProjectRefusal::FileTooLong {
@@ -46,7 +45,7 @@ pub fn read_project(alloc: Global, text: &[u8]) -> Result<Project, ProjectRefusa
 }
 
 fn project_of(alloc: Global, value: &Value) -> Result<Project, ProjectRefusal>
-    ensures { AnswersAs project_facts result
+    ensures { Answers result
         (spec.project_fault (view value.now))
         (spec.project_in (view value.now)) }
 {

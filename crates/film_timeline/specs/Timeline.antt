@@ -1,7 +1,7 @@
 -- What is shown in each frame of a project.
-use Rattle.std.specs.Prelude.{◌≡◌, ◌≢◌, ◌⊎◌, ℕ, ◌+◌, ◌-◌, ◌/◌, Bool, true, false, ◌&&◌, ◌==◌, nat_le, nat_lt, if◌then◌else◌, List, [], ◌∷◌, map, reverse, slice_get, Option, find}
+use Rattle.std.specs.Prelude.{◌≡◌, ◌≢◌, ◌≤◌, ◌<◌, ◌⊎◌, ℕ, ◌+◌, ◌-◌, ◌/◌, IsTrue, Bool, true, false, ◌&&◌, ◌==◌, nat_le, nat_lt, if◌then◌else◌, List, [], ◌∷◌, map, reverse, slice_get, Option, find}
 use Rattle.std.specs.List.{range_with_len}
-use Rattle.std.specs.Option.{option_map_or}
+use Rattle.std.specs.Option.{ForSome, option_map_or}
 use Rattle.film_project.specs.Facts.{PictureFacts, ProjectFacts}
 use Rattle.film_timeline.specs.declared.cell.Cell.{Cell}
 use Rattle.film_timeline.specs.declared.cell.Cell.TheVariants.{Black, Frame}
@@ -18,9 +18,18 @@ cell_in clip f = Frame clip.asset (clip.from + (f - clip.at) / clip.hold)
 unfoldable pub last_covering : List PictureFacts → ℕ → Option PictureFacts
 last_covering clips f = find (λ clip. covers clip f) (reverse clips)
 
--- what the last clip that covers frame f shows there, or black where there is none
+-- what the clip shows in frame f, or black where there is none
+abbrev pub shown_in : Option PictureFacts → ℕ → Cell
+shown_in shown f = option_map_or (λ clip. cell_in clip f) shown Black
+
+-- the last clip that covers the frame decides
 abbrev pub cell_at : List PictureFacts → ℕ → Cell
-cell_at clips f = option_map_or (λ clip. cell_in clip f) (last_covering clips f) Black
+cell_at clips f = shown_in (last_covering clips f) f
+
+-- where there is a clip, it covers each frame from one up to another
+abbrev pub CoversAll : Option PictureFacts → ℕ → ℕ → Type 0
+CoversAll shown from until =
+    (f : ℕ) → from ≤ f → f < until → ForSome shown (λ clip. IsTrue (covers clip f))
 
 -- the project's frames from the first to the last
 abbrev pub cells_of : ProjectFacts → List Cell

@@ -1,5 +1,4 @@
 ghost use Rattle.std.specs.Prelude.{◌≡◌, ℕ, ◌≤◌, ◌<◌, map};
-ghost use Rattle.film_project.specs.Plain.{picture_facts};
 ghost use Rattle.film_timeline.specs.Timeline.{covers, last_covering};
 
 use film_project::PictureClip;
@@ -10,7 +9,7 @@ fn sooner(clip: &PictureClip, f: u32, until: u32) -> u32
     requires { f < until }
     ensures later { f < result }
     ensures no_later { result ≤ until }
-    ensures steady { (g : ℕ) → f ≤ g → g < result → covers (picture_facts clip.now) g ≡ covers (picture_facts clip.now) f }
+    ensures steady { (g : ℕ) → f ≤ g → g < result → covers clip.now g ≡ covers clip.now f }
 {
     let end = clip.at + clip.count;
     if f < clip.at {
@@ -27,8 +26,9 @@ fn sooner(clip: &PictureClip, f: u32, until: u32) -> u32
 pub(crate) fn next_change(clips: &[PictureClip], f: u32, frames: u32) -> u32
     requires { f < frames }
     ensures later { f < result }
+    ensures no_later { result ≤ frames }
     ensures steady { (g : ℕ) → f ≤ g → g < result
-        → last_covering (map picture_facts clips.now) g ≡ last_covering (map picture_facts clips.now) f }
+        → last_covering clips.now g ≡ last_covering clips.now f }
 {
     let mut until = frames;
     for clip in clips {

@@ -1,10 +1,9 @@
 use Rattle.std.proofs.Common.{◌≡◌, ◌≤◌, map, take}
 use Rattle.film_plan.specs.Needs as spec
-use Rattle.film_project.specs.Plain.{sound_facts}
 use Rattle.film_plan.proofs.needs.frames_played.Given as goal
 
 abbrev pub invariant-loop-clip : goal.invariant-loop-clip
 invariant-loop-clip l = record {
-  value : l.most ≡ spec.greatest (spec.frames_played l.place) (map sound_facts (take l.clip-index l.clips));
+  value : l.most ≡ spec.greatest (spec.frames_played l.place) (take l.clip-index l.clips);
   small : l.most ≤ 1431999;
 }

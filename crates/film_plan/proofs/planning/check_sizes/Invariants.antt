@@ -1,9 +1,8 @@
 use Rattle.std.proofs.Common.{◌≡◌, map, drop}
 use Rattle.film_plan.specs.Needs.{first_short, short_from}
-use Rattle.film_project.specs.Plain.{asset_facts, project_facts}
 use Rattle.film_plan.proofs.planning.check_sizes.Given as goal
 
 -- no asset before is short
 abbrev pub invariant-loop-place : goal.invariant-loop-place
 invariant-loop-place l =
-    first_short (project_facts l.project) l.sizes ≡ short_from (project_facts l.project) l.place (map asset_facts (drop l.place l.project.assets)) (drop l.place l.sizes)
+    first_short l.project l.sizes ≡ short_from l.project l.place (drop l.place l.project.assets) (drop l.place l.sizes)
