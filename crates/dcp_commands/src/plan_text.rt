@@ -1,5 +1,4 @@
 ghost use Rattle.std.specs.Prelude.{◌≡◌, ◌<◌, ◌^◌, IfOk, length, string_bytes};
-ghost use Rattle.film_project.specs.Plain.{project_facts};
 ghost use Rattle.dcp_commands.specs.Plan.{count_text, limit_text, plan_text, size_text};
 
 use film_plan::Plan;
@@ -9,7 +8,7 @@ use mast_base::{Bytes, Limits, NoMemory};
 use std::alloc::{AllocError, Global};
 
 fn size_text(alloc: Global, project: &Project) -> Result<String, AllocError>
-    ensures { IfOk result (λ text. string_bytes text ≡ size_text (project_facts project.now)) }
+    ensures { IfOk result (λ text. string_bytes text ≡ size_text project.now) }
 {
     let frames = project.frames;
     let width = project.width;
@@ -37,7 +36,7 @@ fn count_text(alloc: Global, cells: &[Cell]) -> Result<String, AllocError>
 
 /// What `plan` prints of a plan, without the last line's end.
 pub(crate) fn plan_text(alloc: Global, plan: &Plan) -> Result<Bytes, NoMemory>
-    ensures { IfOk result (λ text. text ≡ plan_text (project_facts plan.now.project)) }
+    ensures { IfOk result (λ text. text ≡ plan_text plan.now.project) }
 {
     let mut text = size_text(alloc, &plan.project)?.into_bytes();
     text.extend_from_slice(limit_text(alloc, plan.limits)?.as_bytes())?;

@@ -5,18 +5,9 @@ use Rattle.std.specs.Option.{option_or}
 use Rattle.film_plan.specs.declared.refusal.PlanRefusal.{PlanRefusal}
 use Rattle.film_plan.specs.declared.refusal.PlanRefusal.TheVariants as plan
 use Rattle.film_project.specs.Facts.{ProjectFacts}
-use Rattle.film_project.specs.Plain.{picture_facts, project_facts, sound_facts}
-use Rattle.film_project.specs.declared.clip.PictureClip.{PictureClip}
-use Rattle.film_project.specs.declared.clip.SoundClip.{SoundClip}
-use Rattle.film_project.specs.declared.project.Project.{Project}
 use Rattle.mast_world.specs.Content.{Files}
 use Rattle.film_inputs.specs.Inputs.{is_named, missing_at, missing_before, missing_input, short_end}
 use Rattle.film_inputs.specs.declared.inputs.PlanEnd.TheVariants.{InputShort}
-
--- a test of some items, made of what is seen of them
-pub list_any_mapped : {X Y : Type 0} (g : X → Y) (p : Y → Bool) (xs : List X) → list_any (λ x. p (g x)) xs ≡ list_any p (map g xs)
-list_any_mapped g p [] = refl
-list_any_mapped g p (x ∷ xs) = ap (λ any. p (g x) || any) (list_any_mapped g p xs)
 
 -- one asset more
 pub missing_more : (files : Files) (project : ProjectFacts) (n : ℕ) → missing_before files project n ≡ None → missing_before files project (n + 1) ≡ missing_at files project n
@@ -36,27 +27,6 @@ missing_found files project name place below none is =
     let k = length project.assets - (place + 1) in
     let e : length project.assets ≡ place + 1 + k = omega (arith, below) in
     ap (missing_before files project) e ∙ missing_stays files project name (place + 1) k (missing_more files project place none ∙ is)
-
--- whether a clip names the asset, as the clips themselves tell
-shown_is : (project : Project) (place : ℕ) (clips : List PictureClip) (shown : Bool) → clips ≡ project.picture → shown ≡ list_any (λ clip. clip.asset == place) clips → list_any (λ clip. clip.asset == place) (map picture_facts project.picture) ≡ shown
-shown_is project place clips shown same is =
-    sym (list_any_mapped picture_facts (λ clip. clip.asset == place) project.picture)
-    ∙ ap (list_any (λ clip. clip.asset == place)) (sym same)
-    ∙ sym is
-
-played_is : (project : Project) (place : ℕ) (clips : List SoundClip) (played : Bool) → clips ≡ project.sound → played ≡ list_any (λ clip. clip.asset == place) clips → list_any (λ clip. clip.asset == place) (map sound_facts project.sound) ≡ played
-played_is project place clips played same is =
-    sym (list_any_mapped sound_facts (λ clip. clip.asset == place) project.sound)
-    ∙ ap (list_any (λ clip. clip.asset == place)) (sym same)
-    ∙ sym is
-
-pub named_shown : (project : Project) (place : ℕ) (clips : List PictureClip) (shown : Bool) → clips ≡ project.picture → shown ≡ list_any (λ clip. clip.asset == place) clips → shown ≡ true → shown ≡ is_named (project_facts project) place
-named_shown project place clips shown same is on =
-    on ∙ sym (ap (λ t. t || list_any (λ clip. clip.asset == place) (map sound_facts project.sound)) (shown_is project place clips shown same is ∙ on))
-
-pub named_played : (project : Project) (place : ℕ) (pictures : List PictureClip) (sounds : List SoundClip) (shown played : Bool) → pictures ≡ project.picture → shown ≡ list_any (λ clip. clip.asset == place) pictures → shown ≡ false → sounds ≡ project.sound → played ≡ list_any (λ clip. clip.asset == place) sounds → played ≡ is_named (project_facts project) place
-named_played project place pictures sounds shown played same is not_shown same_sound sound_is =
-    sym (ap (λ t. t || list_any (λ clip. clip.asset == place) (map sound_facts project.sound)) (shown_is project place pictures shown same is ∙ not_shown) ∙ played_is project place sounds played same_sound sound_is)
 
 pub short_end_is : (refusal : PlanRefusal) (asset : List ℕ) (size need : ℕ) → short_end refusal ≡ InputShort asset size need → refusal ≡ plan.InputShort asset size need
 short_end_is (plan.InputShort a s n) asset size need is = cc

@@ -1,6 +1,5 @@
 ghost use Rattle.std.specs.Prelude.{◌≡◌, ◌≢◌, ◌≤◌, ◌<◌, ◌||◌, ◌==◌, ℕ, List, [], Some, None, Ok, Err, IfOk, OnOk, IsTrue, length, map, unwrap_or};
 ghost use Rattle.std.specs.List.{list_any};
-ghost use Rattle.film_project.specs.Plain.{asset_facts, picture_facts, project_facts, sound_facts};
 ghost use Rattle.film_project.specs.Facts.{asset_at};
 ghost use Rattle.mast_world.specs.Count.{HasRisen, counted};
 ghost use Rattle.film_inputs.specs.Inputs.{Ends, is_named, is_single, is_wanted, missing_input, planned, refused_end, size_at, sizes_of, missing_at};
@@ -159,14 +158,14 @@ fn is_played(clips: &[SoundClip], asset: u32) -> bool
 
 /// Whether some clip names the asset at this place.
 fn is_named(project: &Project, place: u32) -> bool
-    ensures { result ≡ is_named (project_facts project.now) place }
+    ensures { result ≡ is_named project.now place }
 {
     is_shown(project.picture.as_slice(), place) || is_played(project.sound.as_slice(), place)
 }
 
 fn asset_at(project: &Project, place: u32) -> &Asset
     requires { place < length project.now.assets }
-    ensures { asset_facts result.now ≡ asset_at (project_facts project.now) place }
+    ensures { result.now ≡ asset_at project.now place }
 {
     &project.assets.as_slice()[place as usize]
 }
@@ -174,7 +173,7 @@ fn asset_at(project: &Project, place: u32) -> &Asset
 /// Whether the file of the asset at this place is looked for.
 fn is_wanted(project: &Project, place: u32) -> bool
     requires { place < length project.now.assets }
-    ensures { result ≡ is_wanted (project_facts project.now) place }
+    ensures { result ≡ is_wanted project.now place }
 {
     is_single(asset_at(project, place).kind) && is_named(project, place)
 }
@@ -187,12 +186,12 @@ fn size_of<S: Source>(
     source: &mut S,
 ) -> Result<u64, PlanEnd>
     requires { place < length project.now.assets }
-    ensures there { S.tells → OnOk result (missing_at (S.file source.old) (project_facts project.now) place ≡ None) }
-    ensures size { S.tells → IfOk result (λ size. size ≡ size_at (S.file source.old) (project_facts project.now) place) }
+    ensures there { S.tells → OnOk result (missing_at (S.file source.old) project.now place ≡ None) }
+    ensures size { S.tells → IfOk result (λ size. size ≡ size_at (S.file source.old) project.now place) }
     ensures missing_count { (n : List ℕ) → result ≡ Err (PlanEnd.InputMissing n)
         → HasRisen (S.absent source.old) (S.absent source.new) }
     ensures missing_told { (n : List ℕ) → result ≡ Err (PlanEnd.InputMissing n) → S.tells
-        → missing_at (S.file source.old) (project_facts project.now) place ≡ Some n }
+        → missing_at (S.file source.old) project.now place ≡ Some n }
     ensures source_fault { result ≡ Err PlanEnd.SourceFault → HasRisen (S.faults source.old) (S.faults source.new) }
     ensures no_refusal { (refusal : ProjectRefusal) → result ≢ Err (PlanEnd.ProjectRefused refusal) }
     ensures no_short { (asset : List ℕ) (size need : ℕ) → result ≢ Err (PlanEnd.InputShort asset size need) }
@@ -214,13 +213,13 @@ fn find_sizes<S: Source>(
     project: &Project,
     source: &mut S,
 ) -> Result<Vec<u64>, PlanEnd>
-    ensures there { S.tells → OnOk result (missing_input (S.file source.old) (project_facts project.now) ≡ None) }
-    ensures sizes { S.tells → IfOk result (λ sizes. sizes.items ≡ sizes_of (S.file source.old) (project_facts project.now)) }
+    ensures there { S.tells → OnOk result (missing_input (S.file source.old) project.now ≡ None) }
+    ensures sizes { S.tells → IfOk result (λ sizes. sizes.items ≡ sizes_of (S.file source.old) project.now) }
     ensures count { IfOk result (λ sizes. length sizes.items ≡ length project.now.assets) }
     ensures missing_count { (n : List ℕ) → result ≡ Err (PlanEnd.InputMissing n)
         → HasRisen (S.absent source.old) (S.absent source.new) }
     ensures missing_told { (n : List ℕ) → result ≡ Err (PlanEnd.InputMissing n) → S.tells
-        → missing_input (S.file source.old) (project_facts project.now) ≡ Some n }
+        → missing_input (S.file source.old) project.now ≡ Some n }
     ensures source_fault { result ≡ Err PlanEnd.SourceFault → HasRisen (S.faults source.old) (S.faults source.new) }
     ensures no_refusal { (refusal : ProjectRefusal) → result ≢ Err (PlanEnd.ProjectRefused refusal) }
     ensures no_short { (asset : List ℕ) (size need : ℕ) → result ≢ Err (PlanEnd.InputShort asset size need) }
@@ -240,7 +239,7 @@ fn find_sizes<S: Source>(
 
 /// Reads the project file of this name, looks for the single files that its clips name, and plans it.
 pub fn read_plan<S: Source>(alloc: Global, source: &mut S, name: &[u8]) -> Result<Plan, PlanEnd>
-    ensures planned { S.tells → IfOk result (λ plan. planned (S.file source.old) name.now ≡ Ok (project_facts plan.project)) }
+    ensures planned { S.tells → IfOk result (λ plan. planned (S.file source.old) name.now ≡ Ok plan.project) }
     ensures ended { (end : PlanEnd) → result ≡ Err end → S.tells → Ends end (planned (S.file source.old) name.now) }
     ensures taken { S.tells
         → OnOk result (S.taken source.new ≡ counted (S.taken source.old) (length (unwrap_or (S.file source.old name.now) []))) }

@@ -1,5 +1,6 @@
 ghost use Rattle.std.specs.Prelude.{◌≡◌};
 ghost use Rattle.film_plan.specs.Plan.{ids_of, job_of, limits_of};
+ghost use Rattle.film_project.specs.Rules.{IsProject};
 ghost use Rattle.film_timeline.specs.Timeline.{cells_of};
 
 use crate::ids::Ids;
@@ -18,6 +19,7 @@ pub struct Plan {
     pub ids: Ids,
     /// What tells this job from others: `DCPJOB 1`, a line feed and the canonical project.
     pub job_text: Bytes,
+    pub ghost rules: { IsProject project },
     pub ghost cells_are: { cells ≡ cells_of project },
     pub ghost limits_are: { limits ≡ limits_of project },
     pub ghost ids_are: { ids ≡ ids_of project },

@@ -1,5 +1,6 @@
 //! Copies of a project and of its parts.
 ghost use Rattle.std.specs.Prelude.{◌≡◌, IfOk};
+ghost use Rattle.film_project.specs.Rules.{IsProject};
 
 use crate::asset::Asset;
 use crate::clip::SoundClip;
@@ -10,7 +11,8 @@ use std::alloc::Global;
 impl Project {
     /// A copy in memory of its own.
     pub fn copy(&self, alloc: Global) -> Result<Self, NoMemory>
-        ensures { IfOk result (λ copy. copy ≡ self.now) }
+        ensures same { IfOk result (λ copy. copy ≡ self.now) }
+        ensures rules { IfOk result IsProject }
     {
         let assets = copy_assets(alloc, self.assets.as_slice())?;
         let sound = copy_sound(alloc, self.sound.as_slice())?;

@@ -1,5 +1,4 @@
 ghost use Rattle.std.specs.Prelude.{◌≡◌, ◌≢◌, ◌≤◌, ◌++◌, ◌⊎◌, ℕ, [], List, Some, Err, IfOk, OnOk, OnErr, IsOkUnless, IsSome, IsTrue, IsFalse, length};
-ghost use Rattle.film_project.specs.Plain.{project_facts};
 ghost use Rattle.make_engine.specs.Causes.{IsBadFrame, IsMissingFrame, IsUnwritten};
 ghost use Rattle.make_engine.specs.Engine.{HasCopied};
 ghost use Rattle.make_engine.specs.Package.{frames_size, is_built, picture_of};
@@ -61,29 +60,30 @@ fn copy_frames<S: Source, V: Volume>(
     requires empty { V.tells → V.reads volume.old PICTURE ≡ [] }
 
     ensures copied { S.tells
-        → OnOk result (HasCopied V.tells (S.file source.old) (project_facts plan.now.project) plan.now.project.frames
+        → OnOk result (HasCopied V.tells (S.file source.old) plan.now.project plan.now.project.frames
         (V.reads volume.new PICTURE) (S.taken source.old) (S.taken source.new)) }
     ensures put { V.tells
         → OnOk result (V.put volume.new PICTURE ≡ counted (V.put volume.old PICTURE) (length (V.reads volume.new PICTURE))) }
     ensures other_put { (file : FileId) → file ≢ PICTURE → V.put volume.new file ≡ V.put volume.old file }
     ensures other_reads { (file : FileId) → file ≢ PICTURE → V.reads volume.new file ≡ V.reads volume.old file }
 
-    ensures unbuilt { result ≡ Err MakeEnd.Unbuilt → IsFalse (is_built (project_facts plan.now.project)) }
+    ensures unbuilt { result ≡ Err MakeEnd.Unbuilt → IsFalse (is_built plan.now.project) }
     ensures missing { (name : List ℕ) → result ≡ Err (MakeEnd.InputMissing name)
-        → IsMissingFrame S.tells (S.file source.old) (project_facts plan.now.project) name }
+        → IsMissingFrame S.tells (S.file source.old) plan.now.project name }
     ensures missing_count { (name : List ℕ) → result ≡ Err (MakeEnd.InputMissing name)
         → HasRisen (S.absent source.old) (S.absent source.new) }
     ensures bad { (frame : ℕ) (why : BadWhy) → result ≡ Err (MakeEnd.BadFrame frame why)
-        → IsBadFrame S.tells (S.file source.old) (project_facts plan.now.project) frame why }
+        → IsBadFrame S.tells (S.file source.old) plan.now.project frame why }
     ensures source_fault { result ≡ Err MakeEnd.SourceFault → HasRisen (S.faults source.old) (S.faults source.new) }
     ensures store_fault { result ≡ Err MakeEnd.StoreFault → HasRisen (V.faults volume.old) (V.faults volume.new) }
 
     ensures faults_kept { S.faults source.old ≤ S.faults source.new }
     ensures volume_faults_kept { V.faults volume.old ≤ V.faults volume.new }
 {
+    let project = &plan.project;
     let mut held = 0;
     let mut place = 0;
-    for frame in 0..plan.project.frames {
+    for frame in 0..project.frames {
         held = take_item(alloc, plan, frame, source, room, held)?;
         append(volume, place, &room[..held])?;
         place += held as u64;
@@ -103,10 +103,10 @@ pub fn make_alone<S: Source, V: Volume>(
 ) -> Result<Report, MakeEnd>
     // What was made, and how much was read for it.
     ensures picture { S.tells → V.tells
-        → OnOk result (picture_of (S.file source.old) (project_facts plan.now.project) ≡ Some (V.reads volume.new (Picture 1))) }
+        → OnOk result (picture_of (S.file source.old) plan.now.project ≡ Some (V.reads volume.new (Picture 1))) }
     ensures report { IfOk result (λ report. report ≡ record { frames = plan.now.project.frames; kept = 0 }) }
     ensures taken { S.tells
-        → OnOk result (S.taken source.new ≡ counted (S.taken source.old) (frames_size (S.file source.old) (project_facts plan.now.project))) }
+        → OnOk result (S.taken source.new ≡ counted (S.taken source.old) (frames_size (S.file source.old) plan.now.project)) }
 
     // What was put, in bytes; other files stay.
     ensures put { V.tells
@@ -115,18 +115,18 @@ pub fn make_alone<S: Source, V: Volume>(
     ensures other_reads { (file : FileId) → file ≢ Picture 1 → V.reads volume.new file ≡ V.reads volume.old file }
 
     // What isn't built yet is found out before the first write.
-    ensures unbuilt { result ≡ Err MakeEnd.Unbuilt → IsFalse (is_built (project_facts plan.now.project)) }
-    ensures not_built { IsFalse (is_built (project_facts plan.now.project)) → result ≡ Err MakeEnd.Unbuilt }
+    ensures unbuilt { result ≡ Err MakeEnd.Unbuilt → IsFalse (is_built plan.now.project) }
+    ensures not_built { IsFalse (is_built plan.now.project) → result ≡ Err MakeEnd.Unbuilt }
     ensures unwritten { result ≡ Err MakeEnd.Unbuilt
         → IsUnwritten (V.reads volume.old) (V.reads volume.new) (V.put volume.old) (V.put volume.new) }
 
     // Inputs that aren't there, or break their form.
     ensures missing { (name : List ℕ) → result ≡ Err (MakeEnd.InputMissing name)
-        → IsMissingFrame S.tells (S.file source.old) (project_facts plan.now.project) name }
+        → IsMissingFrame S.tells (S.file source.old) plan.now.project name }
     ensures missing_count { (name : List ℕ) → result ≡ Err (MakeEnd.InputMissing name)
         → HasRisen (S.absent source.old) (S.absent source.new) }
     ensures bad { (frame : ℕ) (why : BadWhy) → result ≡ Err (MakeEnd.BadFrame frame why)
-        → IsBadFrame S.tells (S.file source.old) (project_facts plan.now.project) frame why }
+        → IsBadFrame S.tells (S.file source.old) plan.now.project frame why }
 
     // A fault is a device's.
     ensures source_fault { result ≡ Err MakeEnd.SourceFault → HasRisen (S.faults source.old) (S.faults source.new) }
@@ -135,8 +135,8 @@ pub fn make_alone<S: Source, V: Volume>(
     ensures volume_faults_kept { V.faults volume.old ≤ V.faults volume.new }
 
     // Where there is a package and no device fails, nothing but want of memory keeps it from being made.
-    ensures complete { S.tells → IsTrue (is_built (project_facts plan.now.project))
-        → IsSome (picture_of (S.file source.old) (project_facts plan.now.project))
+    ensures complete { S.tells → IsTrue (is_built plan.now.project)
+        → IsSome (picture_of (S.file source.old) plan.now.project)
         → ¬ HasRisen (S.faults source.old) (S.faults source.new)
         → ¬ HasRisen (V.faults volume.old) (V.faults volume.new)
         → (result ≡ Err MakeEnd.NoMemory) ⊎ (result ≡ Ok (record { frames = plan.now.project.frames; kept = 0 })) }

@@ -1,5 +1,4 @@
 ghost use Rattle.std.specs.Prelude.{◌≡◌, ◌≢◌, ◌≤◌, ◌<◌, ◌+◌, ◌-◌, ◌^◌, ◌++◌, ℕ, List, None, Err, IfOk, OnOk, OnErr, IsSome, IsFalse, length, take};
-ghost use Rattle.film_project.specs.Plain.{project_facts};
 ghost use Rattle.film_timeline.specs.Timeline.{cells_of};
 ghost use Rattle.mast_world.specs.Content.{part_of, Reaches};
 ghost use Rattle.mast_world.specs.Count.{HasRisen, counted_on_ok};
@@ -103,23 +102,23 @@ pub(crate) fn take_item<S: Source>(
     requires frame { frame < plan.now.project.frames }
     requires held_size { held ≤ ROOM }
     requires held { S.tells → 0 < frame
-        → IsItemAt (S.file source.old) (project_facts plan.now.project) (frame - 1) (take held room.old) }
+        → IsItemAt (S.file source.old) plan.now.project (frame - 1) (take held room.old) }
     requires earlier { S.tells
-        → IsSome (values_of (S.file source.old) (project_facts plan.now.project) (take frame (cells_of (project_facts plan.now.project)))) }
+        → IsSome (values_of (S.file source.old) plan.now.project (take frame (cells_of plan.now.project))) }
 
     ensures item { S.tells
-        → IfOk result (λ n. TakesItem (S.file source.old) (project_facts plan.now.project) frame
+        → IfOk result (λ n. TakesItem (S.file source.old) plan.now.project frame
         (take n room.new) (S.taken source.old) (S.taken source.new)) }
     ensures size { IfOk result (λ n. n ≤ ROOM) }
     ensures same_files { S.file source.new ≡ S.file source.old }
 
-    ensures unbuilt { result ≡ Err MakeEnd.Unbuilt → IsFalse (is_built (project_facts plan.now.project)) }
+    ensures unbuilt { result ≡ Err MakeEnd.Unbuilt → IsFalse (is_built plan.now.project) }
     ensures missing { (name : List ℕ) → result ≡ Err (MakeEnd.InputMissing name)
-        → IsMissingFrame S.tells (S.file source.old) (project_facts plan.now.project) name }
+        → IsMissingFrame S.tells (S.file source.old) plan.now.project name }
     ensures missing_count { (name : List ℕ) → result ≡ Err (MakeEnd.InputMissing name)
         → HasRisen (S.absent source.old) (S.absent source.new) }
     ensures bad { (f : ℕ) (why : BadWhy) → result ≡ Err (MakeEnd.BadFrame f why)
-        → IsBadFrame S.tells (S.file source.old) (project_facts plan.now.project) f why }
+        → IsBadFrame S.tells (S.file source.old) plan.now.project f why }
     ensures source_fault { result ≡ Err MakeEnd.SourceFault → HasRisen (S.faults source.old) (S.faults source.new) }
     ensures no_store_fault { result ≢ Err MakeEnd.StoreFault }
 

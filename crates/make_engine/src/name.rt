@@ -1,5 +1,4 @@
 ghost use Rattle.std.specs.Prelude.{◌≡◌, IfOk};
-ghost use Rattle.film_project.specs.Plain.{asset_facts};
 ghost use Rattle.make_engine.specs.Package.{frame_name, six_digits};
 
 use film_project::Asset;
@@ -17,7 +16,7 @@ fn six_digits(alloc: Global, n: u32) -> Result<Vec<u8>, AllocError>
 
 /// The file of a frame that lies ready in the asset's folder.
 pub(crate) fn frame_name(alloc: Global, asset: &Asset, index: u32) -> Result<Vec<u8>, AllocError>
-    ensures { IfOk result (λ name. name.items ≡ frame_name (asset_facts asset.now) index) }
+    ensures { IfOk result (λ name. name.items ≡ frame_name asset.now index) }
 {
     let digits = six_digits(alloc, index)?;
     let mut name = asset.file.as_slice().to_vec(alloc)?;

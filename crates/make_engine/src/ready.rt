@@ -1,6 +1,5 @@
 ghost use Rattle.std.specs.Prelude.{◌≡◌, IfSome, IfNone, IfOk, false};
 ghost use Rattle.std.specs.List.{list_all};
-ghost use Rattle.film_project.specs.Plain.{asset_facts, project_facts};
 ghost use Rattle.film_project.specs.declared.asset.AssetKind.TheVariants.{J2c};
 ghost use Rattle.make_engine.specs.Package.{is_built, is_j2c, is_ready};
 ghost use Rattle.film_project.specs.Facts.{asset_at};
@@ -14,9 +13,9 @@ use std::alloc::{AllocError, Global};
 
 /// The asset at this place, if it is a folder of codestreams.
 fn find_codestreams(project: &Project, place: u32) -> Option<&Asset>
-    ensures at { IfSome result (λ asset. asset_facts asset.now ≡ asset_at (project_facts project.now) place) }
+    ensures at { IfSome result (λ asset. asset.now ≡ asset_at project.now place) }
     ensures j2c { IfSome result (λ asset. asset.now.kind ≡ J2c) }
-    ensures none { IfNone result (is_j2c (asset_at (project_facts project.now) place).kind ≡ false) }
+    ensures none { IfNone result (is_j2c (asset_at project.now place).kind ≡ false) }
 {
     let asset = project.assets.as_slice().get(place as usize)?;
     if asset.kind == AssetKind::J2c {
@@ -28,7 +27,7 @@ fn find_codestreams(project: &Project, place: u32) -> Option<&Asset>
 
 /// Whether the cell shows a codestream that lies ready.
 fn is_ready(project: &Project, cell: Cell) -> bool
-    ensures { result ≡ is_ready (project_facts project.now) cell }
+    ensures { result ≡ is_ready project.now cell }
 {
     match cell {
         Cell::Frame { asset, .. } => find_codestreams(project, asset).is_some(),
@@ -37,14 +36,14 @@ fn is_ready(project: &Project, cell: Cell) -> bool
 }
 
 fn all_ready(project: &Project, cells: &[Cell]) -> bool
-    ensures { result ≡ list_all (is_ready (project_facts project.now)) cells.now }
+    ensures { result ≡ list_all (is_ready project.now) cells.now }
 {
     cells.iter().all(|cell| is_ready(project, *cell))
 }
 
 /// Whether all that the plan asks for is built.
 pub(crate) fn is_built(plan: &Plan) -> bool
-    ensures { result ≡ is_built (project_facts plan.now.project) }
+    ensures { result ≡ is_built plan.now.project }
 {
     plan.project.channels == 0 && all_ready(&plan.project, plan.cells.as_slice())
 }
@@ -55,8 +54,8 @@ pub(crate) fn file_of(
     project: &Project,
     cell: Cell,
 ) -> Result<Option<Vec<u8>>, AllocError>
-    ensures file { IfOk result (λ file. IfSome file (λ name. IsInFile (project_facts project.now) cell name.items)) }
-    ensures none { IfOk result (λ file. IfNone file (is_ready (project_facts project.now) cell ≡ false)) }
+    ensures file { IfOk result (λ file. IfSome file (λ name. IsInFile project.now cell name.items)) }
+    ensures none { IfOk result (λ file. IfNone file (is_ready project.now cell ≡ false)) }
 {
     let Cell::Frame { asset, index } = cell else {
         return Ok(None);

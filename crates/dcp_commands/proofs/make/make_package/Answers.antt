@@ -2,7 +2,6 @@
 use Rattle.std.proofs.Common.{◌≡◌, [], Err, inl, inr, length, map, string_bytes, ap, subst, sym, ◌∙◌}
 use Rattle.std.proofs.lemmas.Result.{err_from_is_err_and}
 use Rattle.std.specs.Prelude.{unwrap_or}
-use Rattle.film_project.specs.Plain.{project_facts}
 use Rattle.make_engine.proofs.Frames.{counted-counted}
 use Rattle.make_engine.specs.Package.{frames_size, is_built}
 use Rattle.make_engine.specs.declared.outcome.MakeEnd.TheVariants as make_end
@@ -19,7 +18,7 @@ pub returns-in_err-report-clause-ended : goal.returns-in_err-report-clause-ended
 returns-in_err-report-clause-ended g c = λ status tells is.
     let files = g.S.Source.file c.args.source.now in
     let words = map string_bytes c.args.words.now in
-    let project = project_facts c.in_ok-plan.plan.project in
+    let project = c.in_ok-plan.plan.project in
     let asked : MakeWords = record { project = c.in-Some.asked.project.now; out = c.in-Some.asked.out.now } in
     let end = c.in_err-report.field-0.0 in
     let p = err_from_is_err_and c.from_residual-in_err-report.result c.from_residual-in_err-report.ensures.1 in
@@ -38,7 +37,7 @@ pub returns-in_err-report-clause-missing : goal.returns-in_err-report-clause-mis
 returns-in_err-report-clause-missing g c = λ name e.
     let files = g.S.Source.file c.args.source.now in
     let words = map string_bytes c.args.words.now in
-    let project = project_facts c.in_ok-plan.plan.project in
+    let project = c.in_ok-plan.plan.project in
     let asked : MakeWords = record { project = c.in-Some.asked.project.now; out = c.in-Some.asked.out.now } in
     let end = c.in_err-report.field-0.0 in
     let p = err_from_is_err_and c.from_residual-in_err-report.result c.from_residual-in_err-report.ensures.1 in
@@ -62,7 +61,7 @@ pub returns-in_err-report-clause-bad : goal.returns-in_err-report-clause-bad
 returns-in_err-report-clause-bad g c = λ frame why e.
     let files = g.S.Source.file c.args.source.now in
     let words = map string_bytes c.args.words.now in
-    let project = project_facts c.in_ok-plan.plan.project in
+    let project = c.in_ok-plan.plan.project in
     let asked : MakeWords = record { project = c.in-Some.asked.project.now; out = c.in-Some.asked.out.now } in
     let end = c.in_err-report.field-0.0 in
     let p = err_from_is_err_and c.from_residual-in_err-report.result c.from_residual-in_err-report.ensures.1 in
@@ -78,7 +77,7 @@ pub returns-in_err-report-clause-complete : goal.returns-in_err-report-clause-co
 returns-in_err-report-clause-complete g c = λ tells some source volume.
     let files = g.S.Source.file c.args.source.now in
     let words = map string_bytes c.args.words.now in
-    let project = project_facts c.in_ok-plan.plan.project in
+    let project = c.in_ok-plan.plan.project in
     let asked : MakeWords = record { project = c.in-Some.asked.project.now; out = c.in-Some.asked.out.now } in
     let p = err_from_is_err_and c.from_residual-in_err-report.result c.from_residual-in_err-report.ensures.1 in
     let both = package_from files words project (is_built project) (checked_by files words asked project (sym c.in-Some.ensures) (ap (planned files) (sym c.as_bytes.ensures.value) ∙ c.in_ok-plan.ensures.planned tells)) some in
@@ -93,7 +92,7 @@ pub returns-clause-package : goal.returns-clause-package
 returns-clause-package g c = λ tells told.
     let files = g.S.Source.file c.args.source.now in
     let words = map string_bytes c.args.words.now in
-    let project = project_facts c.in_ok-plan.plan.project in
+    let project = c.in_ok-plan.plan.project in
     let asked : MakeWords = record { project = c.in-Some.asked.project.now; out = c.in-Some.asked.out.now } in
     let on = built (is_built project) c.make_alone.result c.in_ok-report.report c.in_ok-report.was c.make_alone.ensures.not_built in
     package_is files words project _
@@ -104,7 +103,7 @@ pub returns-clause-text : goal.returns-clause-text
 returns-clause-text g c =
     let files = g.S.Source.file c.args.source.now in
     let words = map string_bytes c.args.words.now in
-    let project = project_facts c.in_ok-plan.plan.project in
+    let project = c.in_ok-plan.plan.project in
     let asked : MakeWords = record { project = c.in-Some.asked.project.now; out = c.in-Some.asked.out.now } in
     let on = built (is_built project) c.make_alone.result c.in_ok-report.report c.in_ok-report.was c.make_alone.ensures.not_built in record {
       frames = project.frames;
@@ -116,7 +115,7 @@ pub returns-clause-taken : goal.returns-clause-taken
 returns-clause-taken g c = λ tells.
     let files = g.S.Source.file c.args.source.now in
     let words = map string_bytes c.args.words.now in
-    let project = project_facts c.in_ok-plan.plan.project in
+    let project = c.in_ok-plan.plan.project in
     let asked : MakeWords = record { project = c.in-Some.asked.project.now; out = c.in-Some.asked.out.now } in
     let on = built (is_built project) c.make_alone.result c.in_ok-report.report c.in_ok-report.was c.make_alone.ensures.not_built in
     let told = checked_built files words asked project (sym c.in-Some.ensures) (ap (planned files) (sym c.as_bytes.ensures.value) ∙ c.in_ok-plan.ensures.planned tells) on in
@@ -132,7 +131,7 @@ pub returns-clause-ended : goal.returns-clause-ended
 returns-clause-ended g c = λ status tells is.
     let files = g.S.Source.file c.args.source.now in
     let words = map string_bytes c.args.words.now in
-    let project = project_facts c.in_ok-plan.plan.project in
+    let project = c.in_ok-plan.plan.project in
     let asked : MakeWords = record { project = c.in-Some.asked.project.now; out = c.in-Some.asked.out.now } in
     let on = built (is_built project) c.make_alone.result c.in_ok-report.report c.in_ok-report.was c.make_alone.ensures.not_built in
     let told = checked_built files words asked project (sym c.in-Some.ensures) (ap (planned files) (sym c.as_bytes.ensures.value) ∙ c.in_ok-plan.ensures.planned tells) on in

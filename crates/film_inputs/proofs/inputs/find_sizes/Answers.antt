@@ -1,9 +1,7 @@
 use Rattle.std.proofs.Common.{◌≡◌, ◌<◌, Err, [], ◌∷◌, ◌++◌, length, map, ap, sym, ◌∙◌, arith}
-use Rattle.std.proofs.lemmas.List.{length-map}
 use Rattle.std.proofs.lemmas.List.FromFn.{map-range_with_len_more}
 use Rattle.std.proofs.lemmas.Result.{err_from_is_err_and}
 use Rattle.std.specs.List.{range_with_len}
-use Rattle.film_project.specs.Plain.{asset_facts, project_facts}
 use Rattle.film_inputs.specs.Inputs.{missing_before, size_at}
 use Rattle.film_inputs.specs.declared.inputs.PlanEnd.TheVariants.{InputMissing}
 use Rattle.film_inputs.proofs.Planning.{missing_found, missing_more}
@@ -12,18 +10,18 @@ use Rattle.film_inputs.proofs.inputs.find_sizes.Goals as goal
 pub returns-in_err-size_of-clause-missing_told : goal.returns-in_err-size_of-clause-missing_told
 returns-in_err-size_of-clause-missing_told g c = λ n e tells.
     let files = g.S.Source.file c.args.source.now in
-    let project = project_facts c.args.project.now in
+    let project = c.args.project.now in
     let before = c.loop-place.invariant in
     let p = err_from_is_err_and c.from_residual-in_err-size_of.result c.from_residual-in_err-size_of.ensures.1 in
     let was : c.size_of.result ≡ Err (InputMissing n) = cc (e, p.1, p.2, c.in_err-size_of.was) in
-    let below : c.loop-place.place < length project.assets = omega (arith, c.loop-place-test.true, c.len-count.ensures, length-map c.args.project.now.assets asset_facts) in
+    let below : c.loop-place.place < length project.assets = omega (arith, c.loop-place-test.true, c.len-count.ensures) in
     missing_found files project n c.loop-place.place below (before.there tells)
     (rw (← before.files) (c.size_of.ensures.missing_told n was tells))
 
 pub loop-place-preserved : goal.loop-place-preserved
 loop-place-preserved g c =
     let files = g.S.Source.file c.args.source.now in
-    let project = project_facts c.args.project.now in
+    let project = c.args.project.now in
     let before = c.loop-place.invariant in
     let step = c.in_ok-size_of.ensures in
     record {
@@ -42,12 +40,12 @@ loop-place-preserved g c =
 
 pub returns-clause-there : goal.returns-clause-there
 returns-clause-there g c = λ tells.
-    let project = project_facts c.args.project.now in
-    let all : length project.assets ≡ c.loop-place.place = omega (arith, c.loop-place-test.false, c.loop-place.auto.place-end, c.len-count.ensures, length-map c.args.project.now.assets asset_facts) in
+    let project = c.args.project.now in
+    let all : length project.assets ≡ c.loop-place.place = omega (arith, c.loop-place-test.false, c.loop-place.auto.place-end, c.len-count.ensures) in
     ap (missing_before (g.S.Source.file c.args.source.now) project) all ∙ c.loop-place.invariant.there tells
 
 pub returns-clause-sizes : goal.returns-clause-sizes
 returns-clause-sizes g c = λ tells.
-    let project = project_facts c.args.project.now in
-    let all : length project.assets ≡ c.loop-place.place = omega (arith, c.loop-place-test.false, c.loop-place.auto.place-end, c.len-count.ensures, length-map c.args.project.now.assets asset_facts) in
+    let project = c.args.project.now in
+    let all : length project.assets ≡ c.loop-place.place = omega (arith, c.loop-place-test.false, c.loop-place.auto.place-end, c.len-count.ensures) in
     c.loop-place.invariant.sizes tells ∙ ap (λ n. map (size_at (g.S.Source.file c.args.source.now) project) (range_with_len 0 n)) (sym all)

@@ -1,6 +1,5 @@
 use Rattle.std.proofs.Common.{◌≡◌, ◌≤◌, None, length, map}
 use Rattle.std.specs.List.{range_with_len}
-use Rattle.film_project.specs.Plain.{project_facts}
 use Rattle.film_inputs.specs.Inputs.{missing_before, size_at}
 use Rattle.film_inputs.proofs.inputs.find_sizes.Given as goal
 
@@ -9,8 +8,8 @@ abbrev pub invariant-loop-place : goal.invariant-loop-place
 invariant-loop-place g l =
     let source = g.S.Source in
     record {
-      there : source.tells → missing_before (source.file l.fn.source) (project_facts l.project) l.place ≡ None;
-      sizes : source.tells → l.sizes.items ≡ map (size_at (source.file l.fn.source) (project_facts l.project)) (range_with_len 0 l.place);
+      there : source.tells → missing_before (source.file l.fn.source) l.project l.place ≡ None;
+      sizes : source.tells → l.sizes.items ≡ map (size_at (source.file l.fn.source) l.project) (range_with_len 0 l.place);
       count : length l.sizes.items ≡ l.place;
       files : source.file l.source ≡ source.file l.fn.source;
       taken : source.taken l.source ≡ source.taken l.fn.source;

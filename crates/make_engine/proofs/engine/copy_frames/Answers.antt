@@ -1,6 +1,5 @@
 use Rattle.std.proofs.Common.{◌≡◌, ℕ, ◌∙◌, [], refl, ap, subst, arith, length, take}
 use Rattle.std.proofs.lemmas.List.{length-append, length-take-le}
-use Rattle.film_project.specs.Plain.{project_facts}
 use Rattle.make_engine.specs.Engine.{HasCopied, TakesItem}
 use Rattle.make_engine.proofs.Frames.{HasCopied_more, counted_next, held_next}
 use Rattle.make_engine.specs.declared.engine.TheConstants.{PICTURE}
@@ -32,7 +31,7 @@ loop-frame-preserved g c =
     let end = c.in_ok-append.ensures in
     let small = before.small in
     let files = g.S.Source.file c.args.source.now in
-    let project = project_facts c.args.plan.now.project in
+    let project = c.args.plan.now.project in
     let held = c.in_ok-held.held in
     let item = take held c.take_item.new.room in
     let size : length item ≡ held = length-take-le held c.take_item.new.room (omega (arith, step.size, c.take_item.auto.room)) in
@@ -60,6 +59,7 @@ loop-frame-preserved g c =
 
 pub returns-clause-copied : goal.returns-clause-copied
 returns-clause-copied g c = λ tells.
-    let e : c.loop-frame.frame ≡ c.args.plan.now.project.frames = omega arith in
-    subst (λ (f : ℕ). HasCopied g.V.Volume.tells (g.S.Source.file c.args.source.now) (project_facts c.args.plan.now.project) f (g.V.Volume.reads c.loop-frame.volume PICTURE) (g.S.Source.taken c.args.source.now) (g.S.Source.taken c.loop-frame.source)) e
+    let all : c.project.inside.frames ≡ c.args.plan.now.project.frames = ap (λ project. project.frames) c.project.view_is in
+    let e : c.loop-frame.frame ≡ c.args.plan.now.project.frames = omega (arith, all) in
+    subst (λ (f : ℕ). HasCopied g.V.Volume.tells (g.S.Source.file c.args.source.now) c.args.plan.now.project f (g.V.Volume.reads c.loop-frame.volume PICTURE) (g.S.Source.taken c.args.source.now) (g.S.Source.taken c.loop-frame.source)) e
     (c.loop-frame.invariant.copied tells)

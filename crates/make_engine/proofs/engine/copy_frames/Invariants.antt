@@ -1,5 +1,4 @@
 use Rattle.std.proofs.Common.{◌≡◌, ◌≢◌, ◌≤◌, ◌<◌, ◌*◌, ◌-◌, length, take}
-use Rattle.film_project.specs.Plain.{project_facts}
 use Rattle.mast_world.specs.Count.{counted}
 use Rattle.mast_world.specs.declared.volume.FileId.{FileId}
 use Rattle.make_engine.specs.Engine.{HasCopied, IsItemAt}
@@ -12,7 +11,7 @@ abbrev pub invariant-loop-frame : goal.invariant-loop-frame
 invariant-loop-frame g l =
     let source = g.S.Source in
     let volume = g.V.Volume in
-    let project = project_facts l.plan.project in
+    let project = l.plan.project in
     record {
       small : l.place ≤ l.frame * ROOM;
       place : volume.tells → length (volume.reads l.volume PICTURE) ≡ l.place;

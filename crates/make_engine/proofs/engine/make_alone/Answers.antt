@@ -1,6 +1,5 @@
 use Rattle.std.proofs.Common.{◌∙◌, Some, ap, sym, Err, inl, arith}
 use Rattle.std.proofs.lemmas.Result.{err_from_is_err_and}
-use Rattle.film_project.specs.Plain.{project_facts}
 use Rattle.mast_world.specs.declared.volume.FileId.TheVariants.{Picture}
 use Rattle.make_engine.proofs.Outcomes.{bad_none, memory_left, missing_none, not_some, picture_made, size_made}
 use Rattle.make_engine.specs.Package.{picture_of}
@@ -10,7 +9,7 @@ use Rattle.make_engine.proofs.engine.make_alone.Goals as goal
 pub returns-in_err-copy_frames-clause-complete : goal.returns-in_err-copy_frames-clause-complete
 returns-in_err-copy_frames-clause-complete g c = λ tells built some source volume.
     let files = g.S.Source.file c.args.source.now in
-    let project = project_facts c.args.plan.now.project in
+    let project = c.args.plan.now.project in
     let p = err_from_is_err_and c.from_residual-in_err-copy_frames.result c.from_residual-in_err-copy_frames.ensures.1 in
     let e = c.in_err-copy_frames.field-0.0 in
     let was = c.in_err-copy_frames.was in
@@ -26,14 +25,14 @@ returns-in_err-copy_frames-clause-complete g c = λ tells built some source volu
 pub returns-clause-picture : goal.returns-clause-picture
 returns-clause-picture g c = λ tells told.
     let files = g.S.Source.file c.args.source.now in
-    let project = project_facts c.args.plan.now.project in
+    let project = c.args.plan.now.project in
     picture_made told files project (g.V.Volume.reads c.copy_frames.new.volume PICTURE) (g.S.Source.taken c.args.source.now) (g.S.Source.taken c.copy_frames.new.source) (c.in_ok-copy_frames.ensures.copied tells)
     ∙ ap (λ reads. Some (reads (Picture 1))) (sym c.sync.ensures.same_reads)
 
 pub returns-clause-taken : goal.returns-clause-taken
 returns-clause-taken g c = λ tells.
     let files = g.S.Source.file c.args.source.now in
-    let project = project_facts c.args.plan.now.project in
+    let project = c.args.plan.now.project in
     size_made g.V.Volume.tells files project (g.V.Volume.reads c.copy_frames.new.volume PICTURE) (g.S.Source.taken c.args.source.now) (g.S.Source.taken c.copy_frames.new.source) (c.in_ok-copy_frames.ensures.copied tells)
 
 pub returns-clause-other_put : goal.returns-clause-other_put

@@ -1,26 +1,25 @@
 use Rattle.std.proofs.Common.{◌∙◌, ap, arith, take, get_or}
 use Rattle.std.proofs.lemmas.Result.{IfOk-weaker}
-use Rattle.film_project.specs.Plain.{project_facts}
 use Rattle.film_timeline.specs.declared.cell.Cell.TheVariants.{Black}
 use Rattle.make_engine.specs.Engine.{IsInFile, ReadsItem, TakesItem}
 use Rattle.make_engine.proofs.Frames.{bad_frame, cell_there, limit_small, missing_frame, not_built, shows_file, takes_again, takes_fresh}
 use Rattle.make_engine.proofs.frame.take_item.Goals as goal
 
 pub is_repeat-requires : goal.is_repeat-requires
-is_repeat-requires g c = cell_there (project_facts c.args.plan.now.project) _ c.args.frame (c.as_slice-cells.ensures ∙ c.args.plan.now.cells_are) c.requires.frame
+is_repeat-requires g c = cell_there c.args.plan.now.project _ c.args.frame (c.as_slice-cells.ensures ∙ c.args.plan.now.cells_are) c.requires.frame
 
 pub returns-then-is_repeat-clause-item : goal.returns-then-is_repeat-clause-item
 returns-then-is_repeat-clause-item g c = λ tells.
-    takes_again (g.S.Source.file c.args.source.now) (project_facts c.args.plan.now.project) c.as_slice-cells.result.now c.args.frame
+    takes_again (g.S.Source.file c.args.source.now) c.args.plan.now.project c.as_slice-cells.result.now c.args.frame
     (take c.args.held c.args.room.now) (g.S.Source.taken c.args.source.now) c.is_repeat.result
     (c.as_slice-cells.ensures ∙ c.args.plan.now.cells_are) c.is_repeat.ensures c.if-is_repeat.true (c.requires.held tells)
 
 pub bounds-cells-frame : goal.bounds-cells-frame
-bounds-cells-frame g c = cell_there (project_facts c.args.plan.now.project) _ c.args.frame (c.as_slice-cells.ensures ∙ c.args.plan.now.cells_are) c.requires.frame
+bounds-cells-frame g c = cell_there c.args.plan.now.project _ c.args.frame (c.as_slice-cells.ensures ∙ c.args.plan.now.cells_are) c.requires.frame
 
 pub returns-in_default-clause-unbuilt : goal.returns-in_default-clause-unbuilt
 returns-in_default-clause-unbuilt g c = λ _.
-    let project = project_facts c.args.plan.now.project in
+    let project = c.args.plan.now.project in
     let are = c.as_slice-cells.ensures ∙ c.args.plan.now.cells_are in
     not_built project c.as_slice-cells.result.now c.args.frame are (cell_there project _ c.args.frame are c.requires.frame)
     (rw c.in_default.is at c.in_ok-name.ensures.none)
@@ -28,13 +27,13 @@ returns-in_default-clause-unbuilt g c = λ _.
 pub read_codestream-requires-clause-limit : goal.read_codestream-requires-clause-limit
 read_codestream-requires-clause-limit g c =
     let plan = c.args.plan.now in
-    let small = limit_small (project_facts plan.project) plan.project.most_rate plan.project.fps_known in
+    let small = limit_small plan.project plan.rules.most_rate plan.rules.fps_known in
     let same = ap (λ limits. limits.frame) plan.limits_are in
     omega arith
 
 pub returns-clause-item : goal.returns-clause-item
 returns-clause-item g c = λ tells.
-    let project = project_facts c.args.plan.now.project in
+    let project = c.args.plan.now.project in
     let cells = c.as_slice-cells.result.now in
     let are = c.as_slice-cells.ensures ∙ c.args.plan.now.cells_are in
     let name = c.deref.result.now in
@@ -54,7 +53,7 @@ returns-clause-item g c = λ tells.
 
 pub returns-clause-missing : goal.returns-clause-missing
 returns-clause-missing g c = λ name was.
-    let project = project_facts c.args.plan.now.project in
+    let project = c.args.plan.now.project in
     let cells = c.as_slice-cells.result.now in
     let are = c.as_slice-cells.ensures ∙ c.args.plan.now.cells_are in
     let here = c.deref.result.now in
@@ -67,7 +66,7 @@ returns-clause-missing g c = λ name was.
 
 pub returns-clause-bad : goal.returns-clause-bad
 returns-clause-bad g c = λ f why was.
-    let project = project_facts c.args.plan.now.project in
+    let project = c.args.plan.now.project in
     let cells = c.as_slice-cells.result.now in
     let are = c.as_slice-cells.ensures ∙ c.args.plan.now.cells_are in
     let here = c.deref.result.now in
