@@ -1,13 +1,15 @@
 -- How planning ends, step by step.
-use Rattle.std.proofs.Common.{◌≡◌, ℕ, zero, suc, ◌+◌, ◌-◌, ◌<◌, Bool, true, false, ◌||◌, ◌==◌, List, [], ◌∷◌, length, map, Some, None, refl, ap, sym, ◌∙◌, add-one, arith}
-use Rattle.std.specs.List.{list_any}
+use Rattle.std.proofs.Common.{◌≡◌, ℕ, zero, suc, ◌+◌, ◌-◌, ◌<◌, List, length, Some, None, Ok, Err, refl, ap, sym, ◌∙◌, add-one, arith}
 use Rattle.std.specs.Option.{option_or}
 use Rattle.film_plan.specs.declared.refusal.PlanRefusal.{PlanRefusal}
 use Rattle.film_plan.specs.declared.refusal.PlanRefusal.TheVariants as plan
+use Rattle.film_plan.specs.Needs.{first_short}
+use Rattle.film_project.specs.Accepts.{accepts}
 use Rattle.film_project.specs.Facts.{ProjectFacts}
 use Rattle.mast_world.specs.Content.{Files}
-use Rattle.film_inputs.specs.Inputs.{is_named, missing_at, missing_before, missing_input, short_end}
-use Rattle.film_inputs.specs.declared.inputs.PlanEnd.TheVariants.{InputShort}
+use Rattle.film_inputs.specs.Inputs.{Ends, missing_at, missing_before, missing_input, planned, short_end, sizes_of}
+use Rattle.film_inputs.specs.declared.inputs.PlanEnd.{PlanEnd}
+use Rattle.film_inputs.specs.declared.inputs.PlanEnd.TheVariants.{InputMissing, InputShort}
 
 -- one asset more
 pub missing_more : (files : Files) (project : ProjectFacts) (n : ℕ) → missing_before files project n ≡ None → missing_before files project (n + 1) ≡ missing_at files project n
@@ -31,3 +33,17 @@ missing_found files project name place below none is =
 pub short_end_is : (refusal : PlanRefusal) (asset : List ℕ) (size need : ℕ) → short_end refusal ≡ InputShort asset size need → refusal ≡ plan.InputShort asset size need
 short_end_is (plan.InputShort a s n) asset size need is = cc
 short_end_is plan.NoMemory asset size need is = absurd (cc)
+
+-- where all inputs are there, planning ends so by a refusal
+pub short_ends : (files : Files) (name text : List ℕ) (project : ProjectFacts) (refusal : PlanRefusal) (end : PlanEnd) → short_end refusal ≡ end
+    → files name ≡ Some text → accepts text ≡ Ok project → missing_input files project ≡ None
+    → ((asset : List ℕ) (size need : ℕ) → refusal ≡ plan.InputShort asset size need
+    → first_short project (sizes_of files project) ≡ Some (record { asset = asset; size = size; need = need }))
+    → Ends end (planned files name)
+short_ends files name text project (plan.InputShort asset size need) end is there accepted none short =
+    λ _ _. rw (there, accepted, none, short asset size need refl) (ap Err is)
+short_ends files name text project plan.NoMemory end is there accepted none short = λ _ no. absurd (no (sym is))
+
+pub none_is_missing : (refusal : PlanRefusal) (name : List ℕ) → short_end refusal ≡ InputMissing name → ⊥
+none_is_missing (plan.InputShort asset size need) name is = cc
+none_is_missing plan.NoMemory name is = cc

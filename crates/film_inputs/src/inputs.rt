@@ -5,7 +5,7 @@ ghost use Rattle.mast_world.specs.Count.{HasRisen, counted};
 ghost use Rattle.film_inputs.specs.Inputs.{Ends, is_named, is_single, is_wanted, missing_input, planned, refused_end, size_at, sizes_of, missing_at};
 
 use film_plan::{Plan, PlanRefusal, plan};
-use film_project::{Asset, AssetKind, PictureClip, Project, ProjectRefusal, SoundClip};
+use film_project::{Asset, AssetKind, Project, ProjectRefusal};
 use film_reader::read_project;
 use mast_base::{Bytes, NoMemory};
 use mast_world::{Failed, Source};
@@ -144,23 +144,25 @@ fn is_single(kind: AssetKind) -> bool
     }
 }
 
-fn is_shown(clips: &[PictureClip], asset: u32) -> bool
-    ensures { result ≡ list_any (λ clip. clip.asset == asset) clips.now }
+fn is_shown(project: &Project, place: u32) -> bool
+    ensures { result ≡ list_any (λ clip. clip.asset == place) project.now.picture }
 {
-    clips.iter().any(|clip| clip.asset == asset)
+    let clips = project.picture.as_slice();
+    clips.iter().any(|clip| clip.asset == place)
 }
 
-fn is_played(clips: &[SoundClip], asset: u32) -> bool
-    ensures { result ≡ list_any (λ clip. clip.asset == asset) clips.now }
+fn is_played(project: &Project, place: u32) -> bool
+    ensures { result ≡ list_any (λ clip. clip.asset == place) project.now.sound }
 {
-    clips.iter().any(|clip| clip.asset == asset)
+    let clips = project.sound.as_slice();
+    clips.iter().any(|clip| clip.asset == place)
 }
 
 /// Whether some clip names the asset at this place.
 fn is_named(project: &Project, place: u32) -> bool
     ensures { result ≡ is_named project.now place }
 {
-    is_shown(project.picture.as_slice(), place) || is_played(project.sound.as_slice(), place)
+    is_shown(project, place) || is_played(project, place)
 }
 
 fn asset_at(project: &Project, place: u32) -> &Asset

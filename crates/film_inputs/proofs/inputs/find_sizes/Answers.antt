@@ -14,7 +14,8 @@ returns-in_err-size_of-clause-missing_told g c = λ n e tells.
     let before = c.loop-place.invariant in
     let p = err_from_is_err_and c.from_residual-in_err-size_of.result c.from_residual-in_err-size_of.ensures.1 in
     let was : c.size_of.result ≡ Err (InputMissing n) = cc (e, p.1, p.2, c.in_err-size_of.was) in
-    let below : c.loop-place.place < length project.assets = omega (arith, c.loop-place-test.true, c.len-count.ensures) in
+    let seen : length c.project.inside.assets ≡ length project.assets = ap (λ p. length p.assets) c.project.view_is in
+    let below : c.loop-place.place < length project.assets = omega (arith, c.loop-place-test.true, c.len-count.ensures, seen) in
     missing_found files project n c.loop-place.place below (before.there tells)
     (rw (← before.files) (c.size_of.ensures.missing_told n was tells))
 
@@ -41,11 +42,13 @@ loop-place-preserved g c =
 pub returns-clause-there : goal.returns-clause-there
 returns-clause-there g c = λ tells.
     let project = c.args.project.now in
-    let all : length project.assets ≡ c.loop-place.place = omega (arith, c.loop-place-test.false, c.loop-place.auto.place-end, c.len-count.ensures) in
+    let seen : length c.project.inside.assets ≡ length project.assets = ap (λ p. length p.assets) c.project.view_is in
+    let all : length project.assets ≡ c.loop-place.place = omega (arith, c.loop-place-test.false, c.loop-place.auto.place-end, c.len-count.ensures, seen) in
     ap (missing_before (g.S.Source.file c.args.source.now) project) all ∙ c.loop-place.invariant.there tells
 
 pub returns-clause-sizes : goal.returns-clause-sizes
 returns-clause-sizes g c = λ tells.
     let project = c.args.project.now in
-    let all : length project.assets ≡ c.loop-place.place = omega (arith, c.loop-place-test.false, c.loop-place.auto.place-end, c.len-count.ensures) in
+    let seen : length c.project.inside.assets ≡ length project.assets = ap (λ p. length p.assets) c.project.view_is in
+    let all : length project.assets ≡ c.loop-place.place = omega (arith, c.loop-place-test.false, c.loop-place.auto.place-end, c.len-count.ensures, seen) in
     c.loop-place.invariant.sizes tells ∙ ap (λ n. map (size_at (g.S.Source.file c.args.source.now) project) (range_with_len 0 n)) (sym all)
