@@ -14,7 +14,7 @@ use Rattle.film_inputs.specs.Inputs.{planned}
 use Rattle.dcp_commands.specs.Make.{IsEarly, checked, frames_of, input_size, make_status, package_of, with_plan}
 use Rattle.dcp_commands.specs.Words.{MakeWords, make_words}
 use Rattle.dcp_commands.specs.declared.status.Status.{Status}
-use Rattle.dcp_commands.specs.declared.status.Status.TheVariants.{InputMissing, BadFrame, Unbuilt}
+use Rattle.dcp_commands.specs.declared.status.Status.TheVariants.{InputMissing, InputShort, SourceFault, BadFrame, Unbuilt}
 
 -- words and inputs that give a project leave what isn't built
 pub checked_by : (files : Files) (words : List (List ℕ)) (asked : MakeWords) (project : ProjectFacts) → make_words words ≡ Some asked → planned files asked.project ≡ Ok project → checked files words ≡ with_plan (Ok project)
@@ -65,6 +65,22 @@ early_end make_end.SourceFault early = absurd early
 early_end make_end.StoreFault early = absurd early
 early_end make_end.Unbuilt early = refl
 early_end make_end.NoMemory early = absurd early
+
+pub fault_end : (end : MakeEnd) → make_status end ≡ SourceFault → end ≡ make_end.SourceFault
+fault_end (make_end.InputMissing n) h = absurd (cc)
+fault_end (make_end.BadFrame f w) h = absurd (cc)
+fault_end make_end.SourceFault h = refl
+fault_end make_end.StoreFault h = absurd (cc)
+fault_end make_end.Unbuilt h = absurd (cc)
+fault_end make_end.NoMemory h = absurd (cc)
+
+pub never_short : (end : MakeEnd) (asset : List ℕ) (size need : ℕ) → make_status end ≡ InputShort asset size need → ⊥
+never_short (make_end.InputMissing n) asset size need h = cc
+never_short (make_end.BadFrame f w) asset size need h = cc
+never_short make_end.SourceFault asset size need h = cc
+never_short make_end.StoreFault asset size need h = cc
+never_short make_end.Unbuilt asset size need h = cc
+never_short make_end.NoMemory asset size need h = cc
 
 -- a project without a package isn't built, or its frames can't be shown
 pub package_from : (files : Files) (words : List (List ℕ)) (project : ProjectFacts) (b : Bool) → checked files words ≡ cond b (Ok project) (Err Unbuilt) → IsSome (package_of files words) → (b ≡ true) × IsSome (picture_of files project)

@@ -1,5 +1,5 @@
 -- The plan's project is that of the words; where it is built, the engine's answer is the command's.
-use Rattle.std.proofs.Common.{◌≡◌, [], Err, inl, inr, length, map, string_bytes, ap, subst, sym, ◌∙◌}
+use Rattle.std.proofs.Common.{◌≡◌, [], cond, Ok, Err, inl, inr, length, map, string_bytes, ap, subst, sym, ◌∙◌}
 use Rattle.std.proofs.lemmas.Result.{err_from_is_err_and}
 use Rattle.std.specs.Prelude.{unwrap_or}
 use Rattle.make_engine.proofs.Frames.{counted-counted}
@@ -11,7 +11,8 @@ use Rattle.film_inputs.specs.Inputs.{planned}
 use Rattle.dcp_commands.specs.Line.{done_text}
 use Rattle.dcp_commands.specs.Make.{IsEarly, make_status, status_of}
 use Rattle.dcp_commands.specs.Words.{MakeWords}
-use Rattle.dcp_commands.proofs.Making.{bad_end, built, built_unless, checked_built, checked_by, early_end, ended_unbuilt, frames_are, input_is, missing_end, package_from, package_is, risen_later}
+use Rattle.dcp_commands.specs.declared.status.Status.TheVariants.{Unbuilt}
+use Rattle.dcp_commands.proofs.Making.{bad_end, built, built_unless, checked_built, checked_by, early_end, ended_unbuilt, fault_end, frames_are, input_is, missing_end, never_short, package_from, package_is, risen_later}
 use Rattle.dcp_commands.proofs.make.make_package.Goals as goal
 
 pub returns-in_err-report-clause-ended : goal.returns-in_err-report-clause-ended
@@ -24,6 +25,38 @@ returns-in_err-report-clause-ended g c = λ status tells is.
     let p = err_from_is_err_and c.from_residual-in_err-report.result c.from_residual-in_err-report.ensures.1 in
     let told = checked_by files words asked project (sym c.in-Some.ensures) (ap (planned files) (sym c.as_bytes.ensures.value) ∙ c.in_ok-plan.ensures.planned tells) in
     inl (p.1 ∙ ap Err (p.2 ∙ ended_unbuilt (is_built project) project status c.make_alone.result end (sym told ∙ is) c.in_err-report.was c.make_alone.ensures.not_built))
+
+pub returns-in_err-report-clause-early : goal.returns-in_err-report-clause-early
+returns-in_err-report-clause-early g c = λ status e early tells.
+    let files = g.S.Source.file c.args.source.now in
+    let words = map string_bytes c.args.words.now in
+    let project = c.in_ok-plan.plan.project in
+    let asked : MakeWords = record { project = c.in-Some.asked.project.now; out = c.in-Some.asked.out.now } in
+    let end = c.in_err-report.field-0.0 in
+    let p = err_from_is_err_and c.from_residual-in_err-report.result c.from_residual-in_err-report.ensures.1 in
+    let is : status ≡ make_status end = cc (e, p.1, p.2) in
+    let unbuilt = early_end end (subst (λ s. IsEarly s) is early) in
+    let told = checked_by files words asked project (sym c.in-Some.ensures) (ap (planned files) (sym c.as_bytes.ensures.value) ∙ c.in_ok-plan.ensures.planned tells) in
+    let off = c.make_alone.ensures.unbuilt (c.in_err-report.was ∙ ap Err unbuilt) in
+    told ∙ ap (λ b. cond b (Ok project) (Err Unbuilt)) off ∙ ap Err (sym (is ∙ ap make_status unbuilt))
+
+pub returns-in_err-report-clause-short : goal.returns-in_err-report-clause-short
+returns-in_err-report-clause-short g c = λ asset size need e.
+    let p = err_from_is_err_and c.from_residual-in_err-report.result c.from_residual-in_err-report.ensures.1 in
+    absurd (never_short c.in_err-report.field-0.0 asset size need (cc (e, p.1, p.2)))
+
+pub returns-in_err-report-clause-source_fault : goal.returns-in_err-report-clause-source_fault
+returns-in_err-report-clause-source_fault g c = λ e.
+    let end = c.in_err-report.field-0.0 in
+    let p = err_from_is_err_and c.from_residual-in_err-report.result c.from_residual-in_err-report.ensures.1 in
+    let ended = fault_end end (cc (e, p.1, p.2)) in
+    risen_later (g.S.Source.faults c.args.source.now) (g.S.Source.faults c.read_plan.new.source) (g.S.Source.faults c.make_alone.new.source)
+    c.in_ok-plan.ensures.faults_kept (c.make_alone.ensures.source_fault (c.in_err-report.was ∙ ap Err ended))
+
+pub returns-in_err-done_text-clause-ended : goal.returns-in_err-done_text-clause-ended
+returns-in_err-done_text-clause-ended g c = λ status tells is.
+    let p = err_from_is_err_and c.from_residual-in_err-done_text.result c.from_residual-in_err-done_text.ensures.1 in
+    inr (inr (p.1 ∙ ap Err p.2))
 
 pub returns-in_err-report-clause-unwritten : goal.returns-in_err-report-clause-unwritten
 returns-in_err-report-clause-unwritten g c = λ status e early.
