@@ -12,7 +12,7 @@ use Rattle.uuid.proofs.RoundTrips.{parses_hyphenated}
 use Rattle.film_project.specs.Accepts.{project_fault, project_in, namespace_in, assets_fault, picture_fault, sound_fault, picture_in, sound_in, asset_in}
 use Rattle.film_project.specs.Canonical.{project_data, asset_data, picture_data, sound_data}
 use Rattle.film_project.specs.Facts.{AssetFacts, PictureFacts, SoundFacts, ProjectFacts}
-use Rattle.film_project.specs.Members.{list_of, first_of, value_or, objects_fault, rate_fault, count_fault, is_frame_rate, members_fault, range_fault}
+use Rattle.film_project.specs.Members.{list_of, first_of, value_or, objects_fault, rate_fault, count_fault, is_frame_rate, members_fault}
 use Rattle.film_project.specs.Objects.{title_members, format_members, list_members, project_members, object_fault}
 use Rattle.film_project.specs.Rules.{IsProject}
 use Rattle.film_project.specs.Texts.{keeps, offends, fits_uuid, is_lower_hex, first_place}

@@ -1,5 +1,5 @@
 -- A text that keeps the rule of a namespace is a UUID.
-use Rattle.std.proofs.Common.{◌≡◌, ℕ, ◌+◌, ◌*◌, ◌<◌, ◌≤◌, List, All, length, get_or, slice_index, Bool, true, false, not, ◌&&◌, ◌==◌, nat_le, Some, refl, ◌∙◌, arith}
+use Rattle.std.proofs.Common.{◌≡◌, ℕ, ◌+◌, ◌*◌, ◌<◌, ◌≤◌, List, All, length, get_or, slice_index, Bool, true, false, ◌&&◌, ◌==◌, nat_le, Some, refl, ◌∙◌, arith}
 use Rattle.std.proofs.lemmas.Bool.{or_parts, not-false}
 use Rattle.std.proofs.lemmas.Bool.Decides.{nat_tests}
 use Rattle.uuid.specs.Text.{parsed, parsed_hyphenated, has_hyphens, digits_of, is_hex_digit, value_of, byte_of_digits, by_index, hyphen_place, is_hyphen_place}

@@ -1,5 +1,5 @@
 -- The package of a project, frame by frame.
-use Rattle.std.specs.Prelude.{ℕ, ◌-◌, ◌==◌, ◌&&◌, Bool, true, false, codes, List, [], ◌∷◌, ◌++◌, length, sum_by, replicate, nat_le, slice_index_or, if◌then◌else◌, Option, Some, None, option_map, option_and_then, unwrap_or}
+use Rattle.std.specs.Prelude.{ℕ, ◌-◌, ◌==◌, ◌&&◌, Bool, true, false, codes, List, [], ◌∷◌, ◌++◌, length, sum_by, replicate, nat_le, if◌then◌else◌, Option, Some, None, option_map, option_and_then, unwrap_or}
 use Rattle.std.specs.Fmt.{decimal}
 use Rattle.std.specs.List.{flat_map, list_all}
 use Rattle.film_plan.specs.Plan.{limits_of}

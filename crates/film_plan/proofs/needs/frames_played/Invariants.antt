@@ -1,4 +1,4 @@
-use Rattle.std.proofs.Common.{◌≡◌, ◌≤◌, map, take}
+use Rattle.std.proofs.Common.{◌≡◌, ◌≤◌, take}
 use Rattle.film_plan.specs.Needs as spec
 use Rattle.film_plan.proofs.needs.frames_played.Given as goal
 

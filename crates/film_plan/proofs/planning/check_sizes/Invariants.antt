@@ -1,4 +1,4 @@
-use Rattle.std.proofs.Common.{◌≡◌, map, drop}
+use Rattle.std.proofs.Common.{◌≡◌, drop}
 use Rattle.film_plan.specs.Needs.{first_short, short_from}
 use Rattle.film_plan.proofs.planning.check_sizes.Given as goal
 

@@ -1,4 +1,4 @@
-use Rattle.std.proofs.Common.{◌≡◌, map, drop}
+use Rattle.std.proofs.Common.{◌≡◌, drop}
 use Rattle.film_project.specs.Accepts as spec
 use Rattle.film_reader.proofs.assets.find_asset.Given as goal
 

@@ -1,5 +1,5 @@
 -- The clip that is found is the last one that covers each frame up to the next change.
-use Rattle.std.proofs.Common.{◌≡◌, ◌≤◌, sym, ap, ◌∙◌, arith}
+use Rattle.std.proofs.Common.{◌≤◌, sym, ap, ◌∙◌, arith}
 use Rattle.std.specs.Option.{option_copied}
 use Rattle.film_timeline.proofs.Covering.{covers_run, next_cells, all_cells}
 use Rattle.film_timeline.proofs.timeline.cells.Goals as goal
