@@ -1,0 +1,5 @@
+pub mod Numbers
+pub mod Places
+pub mod Results
+pub mod Segments
+pub mod MainHeads
