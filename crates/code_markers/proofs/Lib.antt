@@ -3,3 +3,5 @@ pub mod Places
 pub mod Results
 pub mod Segments
 pub mod MainHeads
+pub mod Parts
+pub mod ReadBack

@@ -1,7 +1,6 @@
 -- The steps of a main header.
-use Rattle.std.proofs.Common.{◌≡◌, ℕ, ◌+◌, refl, sym, ap, ◌∙◌, List, length, Result, Ok, Err}
+use Rattle.std.proofs.Common.{◌≡◌, ℕ, ◌+◌, refl, sym, List, length, Result, Ok, Err}
 use Rattle.std.specs.Prelude.{◌==◌}
-use Rattle.codec_terms.specs.declared.reading.MainHead.{MainHead}
 use Rattle.codec_terms.specs.declared.reading.MarkerRefusal.{MarkerRefusal}
 use Rattle.codec_terms.specs.Reading.{on_ok}
 use Rattle.codec_terms.specs.MainReading.{number_at, fields_end, marker_at, size_rules, head_of_size, segments_read, main_read}
@@ -19,7 +18,6 @@ module _ (bytes : List ℕ) where
     pub place : at ≡ 2
 
   pub started : (at : ℕ) → Ok at ≡ past 0xFF4F 0 → Started at
-
   started at h =
       let was = on_ok-was_ok (marker_at bytes (λ m. m == 0xFF4F) 0) 2 at (sym h) in
       record { marker = was.0.0; there = was.0.1; place = sym was.1 }
@@ -31,7 +29,6 @@ module _ (bytes : List ℕ) where
     pub place : at ≡ 4
 
   pub sized : (from at : ℕ) → Started from → Ok at ≡ past 0xFF51 from → Sized at
-
   sized from at start h =
       let was = on_ok-was_ok (marker_at bytes (λ m. m == 0xFF51) 2) 4 at (sym (rw start.place at h)) in
       record { marker = was.0.0; there = was.0.1; place = sym was.1 }

@@ -1,17 +1,15 @@
 -- Segments one behind another, and what they leave known.
-use Rattle.std.proofs.Common.{◌≡◌, ◌≢◌, ℕ, zero, suc, ◌+◌, ◌-◌, ◌*◌, ◌/◌, ◌<◌, ◌≤◌, refl, sym, ap, ◌∙◌, arith, Bool, true, false, List, [], ◌∷◌, ◌++◌, length, get_or, Result, Ok, Err, Option, Some, None}
-use Rattle.std.specs.Prelude.{if◌then◌else◌, nat_lt, nat_le, ◌==◌, ◌&&◌, is_some}
-use Rattle.std.proofs.lemmas.Bool.{lt-ltb, le-ltb, ltb-false, and_parts, leb-true, eq-eqb, ne_eqb, eqb-true}
+use Rattle.std.proofs.Common.{◌≡◌, ◌≢◌, ℕ, zero, suc, ◌+◌, ◌-◌, ◌*◌, ◌<◌, ◌≤◌, refl, sym, ap, ◌∙◌, arith, Bool, true, false, List, [], ◌∷◌, length, get_or, Result, Ok, Err, Option, Some, None}
+use Rattle.std.specs.Prelude.{if◌then◌else◌, nat_lt, nat_le, ◌==◌, is_some}
+use Rattle.std.proofs.lemmas.Bool.{lt-ltb, ltb-false, and_parts, leb-true, eq-eqb, ne_eqb}
 use Rattle.std.proofs.lemmas.List.{get_or-map}
 use Rattle.std.proofs.lemmas.List.FromFn.{get_or-map-range_with_len}
-use Rattle.codec_terms.specs.declared.picture.Shape.{Shape}
 use Rattle.codec_laws.specs.Bounds.{IsPictureSize}
 use Rattle.codec_terms.specs.declared.reading.MainHead.{MainHead}
 use Rattle.codec_terms.specs.declared.reading.MarkerRefusal.{MarkerRefusal}
-use Rattle.codec_terms.specs.declared.reading.MarkerRefusal.TheVariants.{Truncated, Marker, Field}
+use Rattle.codec_terms.specs.declared.reading.MarkerRefusal.TheVariants.{Truncated}
 use Rattle.codec_terms.specs.Reading.{on_ok}
-use Rattle.codec_terms.specs.MainReading.{FieldRule, fixed, within, numbers_at, planes_at, planes_of, number_at, fields_end, marker_at, comment_end, states_cut, cut_with, segment_end, with_segment, may_follow, head_at, HeadSoFar, coding_rules, quantisation_rules, guard_bits_at, lengths_rules, segments_read}
-use Rattle.code_markers.specs.Fields.{sizes}
+use Rattle.codec_terms.specs.MainReading.{FieldRule, fixed, within, numbers_at, planes_at, planes_of, number_at, fields_end, marker_at, comment_end, cut_with, segment_end, with_segment, may_follow, head_at, HeadSoFar, coding_rules, quantisation_rules, guard_bits_at, lengths_rules, segments_read}
 use Rattle.code_markers.proofs.Numbers.{number_at-upper}
 use Rattle.code_markers.proofs.Places.{First, fields_end-first, fields_end-behind, marker_at-there}
 

@@ -87,7 +87,11 @@ pub(crate) fn field_end(bytes: &[u8], field: Field, at: usize) -> Result<usize, 
 }
 
 /// The place behind fields one behind another, or the first refusal.
-pub(crate) fn fields_end(bytes: &[u8], fields: &[Field], start: usize) -> Result<usize, MarkerRefusal>
+pub(crate) fn fields_end(
+    bytes: &[u8],
+    fields: &[Field],
+    start: usize,
+) -> Result<usize, MarkerRefusal>
     requires { start ≤ length bytes.now }
     ensures is { result ≡ fields_end bytes.now (map rule_of fields.now) start }
     ensures place { IfOk result (λ next. next ≡ start + sizes (map rule_of fields.now)) }

@@ -5,7 +5,11 @@
 mod field;
 mod head;
 mod marker;
+mod part;
 mod reader;
 mod segment;
+mod writer;
 
+pub use part::{END, part_header, read_end, read_part_end, read_part_header};
 pub use reader::read_main;
+pub use writer::main_header;

@@ -60,11 +60,7 @@ fn size_end(bytes: &[u8], at: usize) -> Result<usize, MarkerRefusal>
 }
 
 // The segments behind SIZ, up to the first tile-part.
-fn read_segments(
-    bytes: &[u8],
-    size: HeadSoFar,
-    start: usize,
-) -> Result<MainHead, MarkerRefusal>
+fn read_segments(bytes: &[u8], size: HeadSoFar, start: usize) -> Result<MainHead, MarkerRefusal>
     requires { start ≤ length bytes.now }
     ensures { result ≡ segments_read bytes.now (length bytes.now) (so_far size) start }
 {

@@ -84,11 +84,7 @@ fn planes_at(bytes: &[u8], at: usize) -> [u8; 16]
     planes
 }
 
-fn read_quantisation(
-    bytes: &[u8],
-    at: usize,
-    head: &mut HeadSoFar,
-) -> Result<usize, MarkerRefusal>
+fn read_quantisation(bytes: &[u8], at: usize, head: &mut HeadSoFar) -> Result<usize, MarkerRefusal>
     requires { at ≤ length bytes.now }
     ensures end { result ≡ fields_end bytes.now (quantisation_rules (guard_bits_at bytes.now at)) at }
     ensures head { OnOk result (so_far head.new ≡ with_segment bytes.now 0xFF5C at (so_far head.old)) }

@@ -1,6 +1,6 @@
-use Rattle.std.proofs.Common.{◌≡◌, ◌∙◌, sym, ap, ap₂, length}
+use Rattle.std.proofs.Common.{◌∙◌, sym, ap, ap₂, length}
 use Rattle.std.proofs.lemmas.Result.{err_from_is_err_and}
-use Rattle.codec_terms.specs.MainReading.{number_at, head_of_size, segments_read}
+use Rattle.codec_terms.specs.MainReading.{head_of_size, segments_read}
 use Rattle.code_markers.proofs.MainHeads.{Started, started, Sized, sized, main_read-no_start, main_read-no_size, main_read-other_size, main_read-segments}
 use Rattle.code_markers.proofs.reader.read_main.Goals as goal
 

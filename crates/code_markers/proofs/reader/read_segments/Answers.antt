@@ -1,4 +1,4 @@
-use Rattle.std.proofs.Common.{◌≡◌, ◌≢◌, ◌∙◌, ◌-◌, ◌+◌, ◌<◌, sym, ap, arith, length, refl, Ok, Err}
+use Rattle.std.proofs.Common.{◌∙◌, ◌-◌, ◌+◌, ◌<◌, sym, ap, arith, length, Ok}
 use Rattle.std.proofs.lemmas.Result.{err_from_is_err_and}
 use Rattle.codec_terms.specs.MainReading.{segments_read, may_follow}
 use Rattle.code_markers.specs.Heads.{so_far}

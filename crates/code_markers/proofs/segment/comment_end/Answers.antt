@@ -1,4 +1,4 @@
-use Rattle.std.proofs.Common.{[], sym, ◌∙◌}
+use Rattle.std.proofs.Common.{[], sym}
 use Rattle.codec_terms.specs.MainReading.{within}
 use Rattle.code_markers.proofs.Places.{fields_end-first}
 use Rattle.code_markers.proofs.segment.comment_end.Goals as goal

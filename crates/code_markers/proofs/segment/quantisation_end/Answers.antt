@@ -1,4 +1,4 @@
-use Rattle.std.proofs.Common.{◌≡◌, ◌∙◌, sym, [], ◌∷◌}
+use Rattle.std.proofs.Common.{◌∙◌, sym, [], ◌∷◌}
 use Rattle.std.specs.Prelude.{replicate}
 use Rattle.std.proofs.lemmas.Result.{err_from_is_err_and}
 use Rattle.codec_terms.specs.MainReading.{fixed, guard_rule, step_rule, guard_bits_at}
