@@ -5,3 +5,4 @@ pub mod Segments
 pub mod MainHeads
 pub mod Parts
 pub mod ReadBack
+pub mod Known

@@ -16,3 +16,8 @@ module _ {A B E : Type 0} where
   pub on_ok-was_err : (r : Result A E) (b : B) (e : E) → on_ok r (λ a. Ok b) ≡ Err e → r ≡ Err e
   on_ok-was_err (Ok a) b e h = cc
   on_ok-was_err (Err e') b e h = let same : e' ≡ e = cc in ap Err same
+
+  -- what steps that are done gave
+  pub on_ok-parts : (r : Result A E) (f : A → Result B E) (b : B) → on_ok r f ≡ Ok b → (a : A) × ((r ≡ Ok a) × (f a ≡ Ok b))
+  on_ok-parts (Ok a) f b h = (a, (refl, h))
+  on_ok-parts (Err e) f b h = cc

@@ -57,15 +57,17 @@ planes_at-index bytes at i p =
 
 -- ---- the picture's size
 
-pub size_front : (bytes : List ℕ) (at next : ℕ) → fields_end bytes (fixed 2 0x2F ∷ fixed 2 3 ∷ within 4 32 2048 ∷ within 4 32 1080 ∷ []) at ≡ Ok next
-    → IsPictureSize (record { width = number_at bytes (at + 4) 4; height = number_at bytes (at + 8) 4 })
-size_front bytes at next h =
-    let size = fields_end-first bytes (fixed 2 0x2F) (fixed 2 3 ∷ within 4 32 2048 ∷ within 4 32 1080 ∷ []) at next h in
-    let profile = fields_end-first bytes (fixed 2 3) (within 4 32 2048 ∷ within 4 32 1080 ∷ []) (at + 2) next size.later in
+pub size_front :
+    (bytes : List ℕ) (at next : ℕ) (more : List FieldRule) →
+    fields_end bytes (fixed 2 0x2F ∷ fixed 2 3 ∷ within 4 32 2048 ∷ within 4 32 1080 ∷ more) at ≡ Ok next →
+    IsPictureSize (record { width = number_at bytes (at + 4) 4; height = number_at bytes (at + 8) 4 })
+size_front bytes at next more h =
+    let size = fields_end-first bytes (fixed 2 0x2F) (fixed 2 3 ∷ within 4 32 2048 ∷ within 4 32 1080 ∷ more) at next h in
+    let profile = fields_end-first bytes (fixed 2 3) (within 4 32 2048 ∷ within 4 32 1080 ∷ more) (at + 2) next size.later in
     let width_at : at + 2 + 2 ≡ at + 4 = omega arith in
-    let width = fields_end-first bytes (within 4 32 2048) (within 4 32 1080 ∷ []) (at + 4) next (rw (← width_at) profile.later) in
+    let width = fields_end-first bytes (within 4 32 2048) (within 4 32 1080 ∷ more) (at + 4) next (rw (← width_at) profile.later) in
     let height_at : at + 4 + 4 ≡ at + 8 = omega arith in
-    let height = fields_end-first bytes (within 4 32 1080) [] (at + 8) next (rw (← height_at) width.later) in
+    let height = fields_end-first bytes (within 4 32 1080) more (at + 8) next (rw (← height_at) width.later) in
     let w = number_at bytes (at + 4) 4 in
     let h = number_at bytes (at + 8) 4 in
     let wide = and_parts (nat_le 32 w) (nat_le w 2048) width.accepted in

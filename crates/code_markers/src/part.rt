@@ -1,6 +1,7 @@
-ghost use Rattle.std.specs.Prelude.{◌≡◌, ◌≤◌, ◌<◌, length, IfOk};
+ghost use Rattle.std.specs.Prelude.{◌≡◌, ◌≤◌, ◌<◌, ◌+◌, ◌++◌, ℕ, List, length, IfOk, Ok};
+ghost use Rattle.codec_terms.specs.declared.reading.MainHead.{MainHead};
 ghost use Rattle.codec_terms.specs.Codestream.{part_header};
-ghost use Rattle.codec_terms.specs.StreamReading.{tile_part_start, tile_part_end, marker_behind, end_read};
+ghost use Rattle.codec_terms.specs.StreamReading.{stated_length, tile_part_start, tile_part_end, marker_behind, end_read};
 
 use crate::field::{Field, fields_end};
 use crate::marker::{EOC, SOD, SOT, marker_end};
@@ -9,12 +10,15 @@ use codec_terms::{MainHead, MarkerRefusal, ReadRefusal};
 /// The end of a codestream: EOC.
 pub const END: [u8; 2] = [0xff, 0xd9];
 
-/// The header of a component's tile-part, SOT and SOD (A.4.2, A.4.3), in front of its packets. `length` counts from
-/// SOT to the end of the packets.
-pub fn part_header(component: u8, length: u32) -> [u8; 14]
-    ensures { result ≡ part_header component length }
+/// The header of a component's tile-part, SOT and SOD (A.4.2, A.4.3), in front of its packets. `part_length` counts
+/// from SOT to the end of the packets.
+pub fn part_header(component: u8, part_length: u32) -> [u8; 14]
+    ensures bytes { result ≡ part_header component part_length }
+    // Where the main header states this length, a reader finds the packets behind it.
+    ensures read_back { (front rest : List ℕ) (head : MainHead) → stated_length head component ≡ part_length →
+        tile_part_start (front ++ result ++ rest) head component (length front + 2) ≡ Ok (length front + 14) }
 {
-    let [a, b, c, d] = length.to_be_bytes();
+    let [a, b, c, d] = part_length.to_be_bytes();
     [
         0xff, 0x90, 0, 10, 0, 0, a, b, c, d, component, 3, 0xff, 0x93,
     ]

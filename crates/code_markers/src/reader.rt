@@ -1,4 +1,4 @@
-ghost use Rattle.std.specs.Prelude.{◌≡◌, ◌+◌, ◌-◌, ◌≤◌, IfOk, OnOk, drop, length, map};
+ghost use Rattle.std.specs.Prelude.{◌≡◌, ◌+◌, ◌-◌, ◌≤◌, All, IfOk, OnOk, drop, length, map};
 ghost use Rattle.codec_terms.specs.MainReading.{number_at, fields_end, size_rules, segments_read, main_read};
 ghost use Rattle.codec_laws.specs.Bounds.{IsPictureSize};
 ghost use Rattle.code_markers.specs.Fields.{rule_of};
@@ -78,7 +78,12 @@ fn read_segments(bytes: &[u8], size: HeadSoFar, start: usize) -> Result<MainHead
 /// What a codestream's main header says, or the first refusal by place. It reads up to the marker of the first
 /// tile-part. Any bytes will do, and no memory is taken.
 pub fn read_main(bytes: &[u8]) -> Result<MainHead, MarkerRefusal>
-    ensures { result ≡ main_read bytes.now }
+    ensures is { result ≡ main_read bytes.now }
+
+    // What is known of a header that is accepted.
+    ensures size { IfOk result (λ head. IsPictureSize head.shape) }
+    ensures planes { IfOk result (λ head. All (λ n. n ≤ 31) head.mb) }
+    ensures next { IfOk result (λ head. head.next + 2 ≤ length bytes.now) }
 {
     let size_at = marker_end(bytes, SOC, 0)?;
     let fields_at = marker_end(bytes, SIZ, size_at)?;

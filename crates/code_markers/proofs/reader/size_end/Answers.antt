@@ -1,4 +1,4 @@
-use Rattle.std.proofs.Common.{◌≡◌, ◌∙◌, ◌+◌, sym, ap, ap₂, take, drop, map}
+use Rattle.std.proofs.Common.{[], ◌≡◌, ◌∙◌, ◌+◌, sym, ap, ap₂, take, drop, map}
 use Rattle.std.proofs.lemmas.Result.{err_from_is_err_and}
 use Rattle.codec_terms.specs.MainReading.{number_at, fields_end, size_rules}
 use Rattle.code_markers.specs.Fields.{rule_of}
@@ -24,4 +24,4 @@ returns-clause-is c =
 
 pub returns-clause-size : goal.returns-clause-size
 returns-clause-size c =
-    OnOk-known c.fields_end-2.result (size_front c.args.bytes.now c.args.at c.in_ok-tile_at.tile_at (sym c.in_ok-tile_at.ensures.is))
+    OnOk-known c.fields_end-2.result (size_front c.args.bytes.now c.args.at c.in_ok-tile_at.tile_at [] (sym c.in_ok-tile_at.ensures.is))
