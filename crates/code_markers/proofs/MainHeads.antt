@@ -51,6 +51,6 @@ module _ (bytes : List ℕ) where
   main_read-other_size from at e start size h = rw (start.there, size.there, sym (rw size.place at h)) refl
 
   pub main_read-segments : (from at next : ℕ) → Started from → Sized at → Ok next ≡ size_end at
-      → main_read bytes ≡ segments_read bytes (length bytes) (head_of_size bytes (number_at bytes 8 4) (number_at bytes 12 4)) next
+      → main_read bytes ≡ segments_read bytes (length bytes) (head_of_size bytes (number_at bytes (at + 4) 4) (number_at bytes (at + 8) 4)) next
   unfolding main_read
-  main_read-segments from at next start size h = rw (start.there, size.there, sym (rw size.place at h)) refl
+  main_read-segments from at next start size h = rw (size.place, start.there, size.there, sym (rw size.place at h)) refl

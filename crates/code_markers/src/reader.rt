@@ -89,8 +89,8 @@ pub fn read_main(bytes: &[u8]) -> Result<MainHead, MarkerRefusal>
     let fields_at = marker_end(bytes, SIZ, size_at)?;
     let next = size_end(bytes, fields_at)?;
     let shape = Shape {
-        width: number_at(bytes, 8, 4) as u16,
-        height: number_at(bytes, 12, 4) as u16,
+        width: number_at(bytes, fields_at + 4, 4) as u16,
+        height: number_at(bytes, fields_at + 8, 4) as u16,
     };
     read_segments(bytes, HeadSoFar::of_size(shape), next)
 }
