@@ -1,5 +1,5 @@
-//! The markers of a JPEG 2000 codestream (ITU-T T.800, Annex A), written and read: the main header, the headers of
-//! tile-parts, and the end.
+//! The markers of a JPEG 2000 codestream (ITU-T T.800, Annex A), written and read: the main header, the
+//! headers of tile-parts, and the end.
 #![tactic(auto)]
 
 mod field;

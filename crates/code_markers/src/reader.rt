@@ -18,8 +18,8 @@ const SIZE: [Field; 4] = [
     Field::U32Within(32, 1080),
 ];
 
-// SIZ behind the picture's size: one tile of that size, no offsets, and three components of 12 bits, none of
-// them subsampled.
+// SIZ behind the picture's size: one tile of that size, no offsets, and three components of 12 bits,
+// none of them subsampled.
 fn tile_rules(width: u32, height: u32) -> [Field; 16]
     ensures { map rule_of result ≡ drop 4 (size_rules width height) }
 {
@@ -75,8 +75,8 @@ fn read_segments(bytes: &[u8], size: HeadSoFar, start: usize) -> Result<MainHead
     }
 }
 
-/// What a codestream's main header says, or the first refusal by place. It reads up to the marker of the first
-/// tile-part. Any bytes will do, and no memory is taken.
+/// What a codestream's main header says, or the first refusal by place. It reads up to the marker of the
+/// first tile-part. Any bytes will do, and no memory is taken.
 pub fn read_main(bytes: &[u8]) -> Result<MainHead, MarkerRefusal>
     ensures is { result ≡ main_read bytes.now }
 

@@ -143,7 +143,8 @@ fn read_comment(bytes: &[u8], at: usize, head: &mut HeadSoFar) -> Result<usize, 
     Ok(next)
 }
 
-/// Reads the segment of this marker, COD, QCD, TLM or COM, from behind the marker on, and gives the place behind it.
+/// Reads the segment of this marker, COD, QCD, TLM or COM, from behind the marker on, and gives the
+/// place behind it.
 pub(crate) fn read_segment(
     bytes: &[u8],
     marker: u16,

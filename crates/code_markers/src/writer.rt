@@ -14,14 +14,15 @@ const HEADER_LENGTH: usize = 143;
 /// SOC.
 const START: [u8; 2] = [0xff, 0x4f];
 
-/// COD (A.6.1): CPRL, one layer, the component transform, five levels, code-blocks of 32 × 32, the 9-7 filter,
-/// and precincts of 128 × 128, and of 256 × 256 from resolution 1 on.
+/// COD (A.6.1): CPRL, one layer, the component transform, five levels, code-blocks of 32 × 32, the 9-7
+/// filter, and precincts of 128 × 128, and of 256 × 256 from resolution 1 on.
 #[rattlefmt::skip]
 const CODING: [u8; 20] = [
     0xff, 0x52, 0, 0x12, 1, 4, 0, 1, 1, 5, 3, 3, 0, 0, 0x77, 0x88, 0x88, 0x88, 0x88, 0x88,
 ];
 
-/// QCD (A.6.4): one guard bit, and of each sub-band the exponent in five bits and the mantissa in eleven.
+/// QCD (A.6.4): one guard bit, and of each sub-band the exponent in five bits and the mantissa in
+/// eleven.
 #[rattlefmt::skip]
 const QUANTISATION: [u8; 37] = [
     0xff, 0x5c, 0, 0x23, 0x22,
@@ -33,7 +34,8 @@ const QUANTISATION: [u8; 37] = [
     0x61, 0, 0x61, 0, 0x62, 0,
 ];
 
-// SIZ (A.5.1): the picture, which is the one tile too, without offsets, and three components of 12 bits.
+// SIZ (A.5.1): the picture, which is the one tile too, without offsets, and three components of 12
+// bits.
 #[rattlefmt::skip]
 fn size_segment(shape: Shape) -> [u8; 49]
     ensures { result ≡ size_segment shape }
@@ -72,8 +74,8 @@ fn cut_segment(cut: u32) -> [u8; 14]
     [0xff, 0x64, 0, 12, 0, 0, b'C', b'U', b'T', b'1', a, b, c, d]
 }
 
-/// The main header of a codestream: 143 bytes from SOC up to the first tile-part. `parts` are the lengths of the
-/// tile-parts, each from its marker SOT on, and `cut` is the one that the comment states.
+/// The main header of a codestream: 143 bytes from SOC up to the first tile-part. `parts` are the
+/// lengths of the tile-parts, each from its marker SOT on, and `cut` is the one that the comment states.
 pub fn main_header(
     alloc: Global,
     shape: Shape,
