@@ -5,7 +5,8 @@ use codec_terms::{MainHead, MarkerRefusal, Shape};
 use std::alloc::{AllocError, Global};
 use std::test::Fail;
 
-/// The main header of a picture of 32 × 32 whose parts have 20 bytes each, at cut 0, and the marker of a tile-part.
+/// The main header of a picture of 32 × 32 whose parts have 20 bytes each, at cut 0, and the marker of a
+/// tile-part.
 #[rattlefmt::skip]
 pub(crate) const HEADER: [u8; 145] = [
     0xff, 0x4f,
@@ -20,14 +21,10 @@ pub(crate) const HEADER: [u8; 145] = [
 ];
 
 /// What it says.
+#[rattlefmt::skip]
 pub(crate) const HEAD: MainHead = MainHead {
-    shape: Shape {
-        width: 32,
-        height: 32,
-    },
-    mb: [
-        14, 15, 15, 15, 14, 14, 14, 13, 13, 13, 13, 13, 13, 12, 12, 12,
-    ],
+    shape: Shape { width: 32, height: 32 },
+    mb: [14, 15, 15, 15, 14, 14, 14, 13, 13, 13, 13, 13, 13, 12, 12, 12],
     parts: [20, 20, 20],
     cut: Some(0),
     next: 143,
@@ -40,45 +37,38 @@ fn writes_the_header(rt: HostRuntime) -> Result<(), Fail> {
     Ok(())
 }
 
-/// The numbers of a header and their bytes, by place, where those differ.
-const NUMBERS: [(Shape, [u32; 3], u32); 4] = [
-    (
-        Shape {
-            width: 2048,
-            height: 1080,
-        },
-        [0xffff_ffff, 0, 1],
-        720,
-    ),
-    (
-        Shape {
-            width: 33,
-            height: 32,
-        },
-        [0x0102_0304, 0x0506_0708, 0x090a_0b0c],
-        0x0d0e_0f10,
-    ),
-    (
-        Shape {
-            width: 32,
-            height: 257,
-        },
-        [256, 65_536, 16_777_216],
-        0xffff_ffff,
-    ),
-    (
-        Shape {
-            width: 1998,
-            height: 1080,
-        },
-        [14, 14, 14],
-        447,
-    ),
+/// Sizes of pictures, lengths of parts and cuts.
+#[rattlefmt::skip]
+const NUMBERS: [(u16, u16, [u32; 3], u32); 4] = [
+    (33, 257, [0x0102_0304, 0x0506_0708, 0x090a_0b0c], 0x0d0e_0f10),
+    (2048, 1080, [0xffff_ffff, 0, 1], 720),
+    (32, 1079, [256, 65_536, 16_777_216], 0xffff_ffff),
+    (1998, 32, [14, 14, 14], 447),
+];
+
+/// Places of the header of the first of them, and the bytes there.
+#[rattlefmt::skip]
+const PLACES: [(usize, &'static [u8]); 4] = [
+    (4, &[0, 0x2f, 0, 3, 0, 0, 0, 33, 0, 0, 1, 1, 0, 0, 0, 0]),
+    (24, &[0, 0, 0, 33, 0, 0, 1, 1, 0, 0, 0, 0]),
+    (114, &[0, 1, 2, 3, 4, 0, 5, 6, 7, 8, 0, 9, 10, 11, 12, 0xff, 0x64]),
+    (133, &[0, 0, 0x43, 0x55, 0x54, 0x31, 13, 14, 15, 16]),
 ];
 
 #[test]
+fn writes_each_number_in_its_place(rt: HostRuntime) -> Result<(), Fail> {
+    let (width, height, parts, cut) = NUMBERS[0];
+    let bytes = main_header(rt.alloc(), Shape { width, height }, parts, cut)?;
+    for (at, there) in PLACES {
+        assert!(rt; starts_with(bytes.as_slice(), at, there), "{at}");
+    }
+    Ok(())
+}
+
+#[test]
 fn reads_what_it_writes(rt: HostRuntime) -> Result<(), Fail> {
-    for (shape, parts, cut) in NUMBERS {
+    for (width, height, parts, cut) in NUMBERS {
+        let shape = Shape { width, height };
         let mut bytes = main_header(rt.alloc(), shape, parts, cut)?.into_vec();
         assert!(rt; bytes.len() == 143);
         assert!(rt; read_main(&bytes) == Err(MarkerRefusal::Truncated { at: 143 }));
@@ -103,8 +93,8 @@ fn misses_what_is_cut_off(rt: HostRuntime) -> Result<(), Fail> {
     Ok(())
 }
 
-/// Whether an answer fits the bytes: what stands in front of a refusal's place is refused for being cut off there, and a
-/// header that is accepted needs just the two bytes behind it.
+/// Whether an answer fits the bytes: what stands in front of a refusal's place is refused for being cut
+/// off there, and a header that is accepted needs just the two bytes behind it.
 fn fits(bytes: &[u8]) -> bool {
     match read_main(bytes) {
         Ok(head) => {

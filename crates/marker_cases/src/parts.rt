@@ -64,7 +64,8 @@ fn reads_parts(rt: HostRuntime) -> Result<(), Fail> {
     Ok(())
 }
 
-/// Bytes, a component, the length that is stated of a part that began at 1 and whose packets end at 3, and what is told.
+/// Bytes, a component, the length that is stated of a part that began at 1 and whose packets end at 3,
+/// and what is told.
 #[rattlefmt::skip]
 const ENDS: [(&'static [u8], u8, u32, Result<usize, ReadRefusal>); 14] = [
     (&[0, 0, 0, 0xff, 0x90], 0, 2, Ok(3)),
