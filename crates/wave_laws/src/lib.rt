@@ -1,0 +1,4 @@
+//! Laws of the wavelet transform's definitions, on which its code stands: a level by whole rows, a line by its even
+//! and its odd samples, and what becomes of five levels. They name no code, so that a change of the code proves none
+//! of them again.
+#![tactic(auto)]
