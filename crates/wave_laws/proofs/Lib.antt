@@ -1,0 +1,4 @@
+pub mod Columns
+pub mod Halves
+pub mod Rounds
+pub mod Steps

@@ -6,7 +6,7 @@
 --     low_half row, high_half row          its low and its high samples
 --     quadrant kind area                   one of the four parts of an area after a level
 --     low_area n area                      the low-low part after n levels
-use Rattle.std.specs.Prelude.{ℕ, zero, suc, ◌-◌, ◌%◌, ◌==◌, min, if◌then◌else◌, List, [], ◌∷◌, ◌++◌, map, length, slice_index_or, ℤ, pos, neg_ℤ, ◌+ℤ◌}
+use Rattle.std.specs.Prelude.{◌≡◌, ℕ, zero, suc, ◌-◌, ◌%◌, ◌==◌, min, if◌then◌else◌, List, [], ◌∷◌, ◌++◌, All, map, length, slice_index_or, ℤ, pos, neg_ℤ, ◌+ℤ◌}
 use Rattle.std.specs.List.{range_with_len}
 use Rattle.codec_terms.specs.declared.picture.BandKind.{BandKind}
 use Rattle.codec_terms.specs.declared.picture.BandKind.TheVariants.{LL, HL, LH, HH}
@@ -30,6 +30,10 @@ abbrev pub high_factor : ℤ
 high_factor = pos 80621
 
 -- ---- columns, by whole rows
+
+-- each row has so many samples
+abbrev pub HasColumns : {A : Type 0} → ℕ → List (List A) → Type 0
+HasColumns columns rows = All (λ row. length row ≡ columns) rows
 
 -- a sample, to which k times the sum of two others is added
 abbrev pub lifted_by : ℤ → ℤ → ℤ → ℤ → ℤ

@@ -2,3 +2,9 @@
 //! and its odd samples, and what becomes of five levels. They name no code, so that a change of the code proves none
 //! of them again.
 #![tactic(auto)]
+
+mod lines;
+mod rows;
+
+pub use lines::line_laws;
+pub use rows::{level_laws, neighbour_laws, quadrant_laws, row_laws};
