@@ -3,8 +3,10 @@
 //! of them again.
 #![tactic(auto)]
 
+mod bands;
 mod lines;
 mod rows;
 
+pub use bands::{area_laws, sub_band_laws};
 pub use lines::line_laws;
 pub use rows::{level_laws, neighbour_laws, quadrant_laws, row_laws};
