@@ -1,21 +1,19 @@
 -- Five levels: each sub-band is a part of the level that makes it.
-use Rattle.std.proofs.Common.{◌≡◌, ℕ, zero, suc, ◌+◌, ◌*◌, ◌-◌, ◌/◌, ◌%◌, ◌^◌, ◌<◌, ◌≤◌, ◌⊎◌, inl, inr, refl, sym, ap, ap₂, subst, ◌∙◌, arith, Bool, true, false, List, [], ◌∷◌, length, map, All, ℤ, pos}
+use Rattle.std.proofs.Common.{◌≡◌, ℕ, zero, suc, ◌+◌, ◌^◌, ◌<◌, ◌≤◌, ◌⊎◌, inl, inr, refl, sym, ap, ap₂, ◌∙◌, arith, Bool, true, false, List, length, ℤ}
 use Rattle.std.specs.Prelude.{⊤}
-use Rattle.std.specs.Int.{div_ceil, from_bool}
+use Rattle.std.specs.Int.{div_ceil}
 use Rattle.std.proofs.lemmas.List.Elements.{All-weaker}
-use Rattle.codec_terms.specs.declared.picture.Shape.{Shape}
-use Rattle.codec_terms.specs.declared.picture.Band.{Band}
 use Rattle.codec_terms.specs.declared.picture.BandKind.{BandKind}
 use Rattle.codec_terms.specs.declared.picture.BandKind.TheVariants.{LL, HL, LH, HH}
-use Rattle.codec_terms.specs.Grid.{grid_of, items_of, part_of, with_corner}
-use Rattle.codec_terms.specs.Bands.{is_high_in_rows, is_high_in_columns, band_side, band_columns, band_rows}
+use Rattle.codec_terms.specs.Grid.{part_of, with_corner}
+use Rattle.codec_terms.specs.Bands.{is_high_in_rows, is_high_in_columns, band_side}
 use Rattle.codec_terms.specs.Wavelet.{level, low_count, transformed}
-use Rattle.codec_terms.specs.Encode.{wave, band_side_start, band_part}
+use Rattle.codec_terms.specs.Encode.{band_side_start}
 use Rattle.codec_laws.specs.Bounds.{IsRowOf, IsGridOf}
-use Rattle.codec_laws.proofs.Lists.{All-each}
-use Rattle.codec_laws.proofs.Grids.{IsGridOf-grid_of, IsGridOf-with_corner}
+use Rattle.codec_laws.proofs.Grids.{IsGridOf-with_corner}
 use Rattle.wave_laws.specs.Rows.{HasColumns, quadrant, low_area}
-use Rattle.wave_laws.proofs.Parts.{HasColumns-part, length-part, part_of-whole, part_inside, part_right, part_below, half_start, half_length, HasColumns-level, length-level, part_of-level}
+use Rattle.wave_laws.proofs.Columns.{as_grid}
+use Rattle.wave_laws.proofs.Parts.{HasColumns-part, length-part, part_inside, part_right, part_below, half_start, half_length, HasColumns-level, length-level, part_of-level}
 
 -- ---- an area of which a corner is to be transformed
 
@@ -40,12 +38,6 @@ record Levelled (m k columns : ℕ) (area : List (List ℤ)) : Type 0 where
   pub level_rows : length (level (corner m k area)) ≡ k
   pub next_columns : HasColumns columns (next_area m k area)
   pub next_rows : length (next_area m k area) ≡ length area
-
-as_grid : {A : Type 0} (columns : ℕ) (grid : List (List A)) → HasColumns columns grid → IsGridOf (λ (v : A). ⊤) columns (length grid) grid
-as_grid {A} columns grid each = record {
-  size = refl;
-  each = All-weaker (λ (row : List A). length row ≡ columns) (IsRowOf (λ (v : A). ⊤) columns) (λ row size. record { size = size; each = All-each (λ (v : A). ⊤) (λ v. tt) row }) grid each;
-}
 
 of_grid : {A : Type 0} (columns rows : ℕ) (grid : List (List A)) → IsGridOf (λ (v : A). ⊤) columns rows grid → HasColumns columns grid
 of_grid {A} columns rows grid g = All-weaker (IsRowOf (λ (v : A). ⊤) columns) (λ (row : List A). length row ≡ columns) (λ row r. r.size) grid g.each

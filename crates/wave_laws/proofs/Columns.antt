@@ -34,7 +34,7 @@ get_or-columns_of {A} d columns x (row ∷ grid) wide each =
     get_or-in_front d row (columns_of grid) x (omega arith)
     ∙ ap (λ (others : List A). get_or row x d ∷ others) (get_or-columns_of d columns x grid wide (All-tail (λ (line : List A). length line ≡ columns) row grid each))
 
-as_grid : {A : Type 0} (columns : ℕ) (grid : List (List A)) → HasColumns columns grid → IsGridOf (λ (v : A). ⊤) columns (length grid) grid
+pub as_grid : {A : Type 0} (columns : ℕ) (grid : List (List A)) → HasColumns columns grid → IsGridOf (λ (v : A). ⊤) columns (length grid) grid
 as_grid {A} columns grid each = record {
   size = refl;
   each = All-weaker (λ (row : List A). length row ≡ columns) (IsRowOf (λ (v : A). ⊤) columns) (λ row size. record { size = size; each = All-each (λ (v : A). ⊤) (λ v. tt) row }) grid each;

@@ -1,5 +1,5 @@
 -- A picture's sub-bands are the parts of its levels.
-use Rattle.std.proofs.Common.{◌≡◌, ℕ, zero, suc, ◌+◌, ◌*◌, ◌-◌, ◌/◌, ◌^◌, ◌<◌, ◌≤◌, refl, sym, ap, ap₂, subst, ◌∙◌, arith, Bool, true, false, List, [], ◌∷◌, length, map, get_or, All, ℤ}
+use Rattle.std.proofs.Common.{◌≡◌, ℕ, zero, suc, ◌*◌, ◌-◌, ◌/◌, ◌^◌, ◌<◌, ◌≤◌, refl, sym, ap, subst, ◌∙◌, arith, Bool, List, [], ◌∷◌, length, map, get_or, All, ℤ}
 use Rattle.std.specs.Prelude.{⊤}
 use Rattle.std.specs.Int.{div_ceil}
 use Rattle.std.proofs.lemmas.List.{length-map, get_or-map}
@@ -22,7 +22,7 @@ use Rattle.wave_laws.specs.SubBands.{IsSubBand, area_after, band_grid}
 use Rattle.wave_laws.proofs.Halves.{length-low_half, length-high_half}
 use Rattle.wave_laws.proofs.Columns.{HasColumns-low_rows, HasColumns-high_rows, length-low_rows, length-high_rows}
 use Rattle.wave_laws.proofs.Parts.{part_of-whole, half_start, half_length}
-use Rattle.wave_laws.proofs.Areas.{Reaches, Corner, corner, part_of_kind, low_side, low_side_is, low_area-next, band_start_is, band_side_is, enough_side, part_of-transformed}
+use Rattle.wave_laws.proofs.Areas.{Reaches, corner, low_side, low_side_is, low_area-next, band_start_is, band_side_is, enough_side, part_of-transformed}
 
 -- ---- sizes of a level's parts
 

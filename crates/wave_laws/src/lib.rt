@@ -5,8 +5,10 @@
 
 mod bands;
 mod lines;
+mod ranges;
 mod rows;
 
 pub use bands::{area_laws, sub_band_laws};
 pub use lines::line_laws;
+pub use ranges::{component_bound_laws, line_bound_laws, room_laws, row_bound_laws};
 pub use rows::{level_laws, neighbour_laws, quadrant_laws, row_laws};
