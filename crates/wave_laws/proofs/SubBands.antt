@@ -1,8 +1,8 @@
 -- A picture's sub-bands are the parts of its levels.
-use Rattle.std.proofs.Common.{◌≡◌, ℕ, zero, suc, ◌*◌, ◌-◌, ◌/◌, ◌^◌, ◌<◌, ◌≤◌, refl, sym, ap, subst, ◌∙◌, arith, Bool, List, [], ◌∷◌, length, map, get_or, All, ℤ}
+use Rattle.std.proofs.Common.{◌≡◌, ℕ, zero, suc, ◌*◌, ◌-◌, ◌/◌, ◌^◌, ◌<◌, ◌≤◌, refl, sym, ap, subst, ◌∙◌, arith, Bool, List, [], ◌∷◌, ◌++◌, length, map, get_or, All, ℤ}
 use Rattle.std.specs.Prelude.{⊤}
 use Rattle.std.specs.Int.{div_ceil}
-use Rattle.std.proofs.lemmas.List.{length-map, get_or-map}
+use Rattle.std.proofs.lemmas.List.{length-map, map-append, get_or-map}
 use Rattle.std.proofs.lemmas.List.Elements.{All-weaker, All-map, All-from_recursion}
 use Rattle.codec_terms.specs.declared.picture.Shape.{Shape}
 use Rattle.codec_terms.specs.declared.picture.Band.{Band}
@@ -75,13 +75,23 @@ IsGridOf-quadrant columns rows HH area size each = record {
 
 -- ---- sizes of low-low areas
 
-low_columns : (columns rows : ℕ) (area : List (List ℤ)) → length area ≡ rows → HasColumns columns area → IsGridOf IsClamped (low_count columns) (low_count rows) (quadrant LL area)
+pub low_columns : (columns rows : ℕ) (area : List (List ℤ)) → length area ≡ rows → HasColumns columns area → IsGridOf IsClamped (low_count columns) (low_count rows) (quadrant LL area)
 low_columns columns rows area size each =
     let g = IsGridOf-quadrant columns rows LL area size each in
     let wide : columns - columns / 2 ≡ low_count columns = omega arith in
     let high : rows - rows / 2 ≡ low_count rows = omega arith in
     subst (λ (n : ℕ). IsGridOf IsClamped n (low_count rows) (quadrant LL area)) wide
     (subst (λ (n : ℕ). IsGridOf IsClamped (columns - columns / 2) n (quadrant LL area)) high g)
+
+pub IsGridOf-HL : (columns : ℕ) (area : List (List ℤ)) → HasColumns columns area → IsGridOf IsClamped (columns / 2) (low_count (length area)) (quadrant HL area)
+IsGridOf-HL columns area each =
+    let high : length area - length area / 2 ≡ low_count (length area) = omega arith in
+    subst (λ (n : ℕ). IsGridOf IsClamped (columns / 2) n (quadrant HL area)) high (IsGridOf-quadrant columns (length area) HL area refl each)
+
+pub IsGridOf-LH : (columns : ℕ) (area : List (List ℤ)) → HasColumns columns area → IsGridOf IsClamped (low_count columns) (length area / 2) (quadrant LH area)
+IsGridOf-LH columns area each =
+    let wide : columns - columns / 2 ≡ low_count columns = omega arith in
+    subst (λ (n : ℕ). IsGridOf IsClamped n (length area / 2) (quadrant LH area)) wide (IsGridOf-quadrant columns (length area) LH area refl each)
 
 columns_are : (P : ℤ → Type 0) (columns rows : ℕ) (area : List (List ℤ)) → IsGridOf P columns rows area → HasColumns columns area
 columns_are P columns rows area g = All-weaker (IsRowOf P columns) (λ (row : List ℤ). length row ≡ columns) (λ row r. r.size) area g.each
@@ -205,3 +215,17 @@ unfolding all_bands
 all_sub_bands =
     All-flat_map IsSubBand component_bands (0 ∷ 1 ∷ 2 ∷ [])
     (All-each (λ component. All IsSubBand (component_bands component)) component_sub_bands (0 ∷ 1 ∷ 2 ∷ []))
+
+-- ---- one level and the next
+
+pub low_area-start : (area : List (List ℤ)) → low_area 0 area ≡ area
+unfolding low_area
+low_area-start area = refl
+
+pub low_area-more : (n : ℕ) (area : List (List ℤ)) → low_area (suc n) area ≡ quadrant LL (low_area n area)
+unfolding low_area
+low_area-more n area = refl
+
+pub map-items_of : {A B : Type 0} (f : A → B) (grid : List (List A)) → map f (items_of grid) ≡ items_of (map (map f) grid)
+map-items_of f [] = refl
+map-items_of f (row ∷ grid) = map-append f row (items_of grid) ∙ ap (λ (others : List _). map f row ++ others) (map-items_of f grid)

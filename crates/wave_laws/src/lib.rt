@@ -11,4 +11,6 @@ mod rows;
 pub use bands::{area_laws, sub_band_laws};
 pub use lines::line_laws;
 pub use ranges::{component_bound_laws, line_bound_laws, room_laws, row_bound_laws};
-pub use rows::{level_laws, neighbour_laws, quadrant_laws, row_laws};
+pub use rows::{
+    level_laws, neighbour_laws, quadrant_laws, quadrant_size_laws, round_laws, row_laws,
+};

@@ -1,4 +1,4 @@
-ghost use Rattle.std.specs.Prelude.{◌≡◌, ◌<◌, ◌≤◌, ◌+◌, ◌*◌, ◌^◌, ◌%◌, ℕ, ℤ, List, All, length, unsigned_abs};
+ghost use Rattle.std.specs.Prelude.{◌≡◌, ◌<◌, ◌≤◌, ◌^◌, ◌%◌, ℕ, ℤ, List, All, length, unsigned_abs};
 ghost use Rattle.codec_terms.specs.Grid.{grid_of};
 ghost use Rattle.codec_terms.specs.Wavelet.{shifted, luma, chroma_blue, chroma_red};
 ghost use Rattle.codec_terms.specs.Encode.{component_planes, picture_planes};

@@ -1,7 +1,8 @@
-ghost use Rattle.std.specs.Prelude.{◌≡◌, ◌<◌, ◌≤◌, ◌+◌, ◌*◌, ◌-◌, ◌%◌, suc, ℕ, ℤ, List, ◌++◌, length, map};
+ghost use Rattle.std.specs.Prelude.{◌≡◌, ◌<◌, ◌≤◌, ◌+◌, ◌*◌, ◌/◌, ◌-◌, ◌%◌, suc, ℕ, ℤ, List, ◌++◌, length, map};
 ghost use Rattle.codec_terms.specs.declared.picture.BandKind.TheVariants.{LL, HL, LH, HH};
 ghost use Rattle.codec_terms.specs.Wavelet.{place_before, place_behind, low_count, level};
-ghost use Rattle.wave_laws.specs.Rows.{HasColumns, step_factor, low_factor, high_factor, lifted_row, scaled_row, row_at, row_after, low_rows, high_rows, columns_transformed, finished_row, low_half, high_half, quadrant};
+ghost use Rattle.codec_laws.specs.Bounds.{IsGridOf, IsClamped};
+ghost use Rattle.wave_laws.specs.Rows.{HasColumns, step_factor, low_factor, high_factor, lifted_row, scaled_row, row_at, row_after, columns_transformed, finished_row, low_half, high_half, quadrant};
 
 /// The row above a row and the one below it, reflected at the first and at the last of n rows.
 pub fn neighbour_laws()
@@ -32,6 +33,39 @@ pub fn row_laws()
         → row_after s (rows ++ more) i ≡ row_after s rows i }
 {}
 
+/// The same with each neighbour's number: `inner` rows have rows on both sides, `top` is the first one, and `last` the last one
+/// of an even number of rows (steps 1 and 3) or of an odd number (steps 2 and 4).
+pub fn round_laws()
+    ensures first_inner { (rows : List (List ℤ)) (j : ℕ) → 2 * j + 2 < length rows
+        → row_after 1 rows (2 * j + 1) ≡ lifted_row (step_factor 1) (row_at rows (2 * j + 1))
+        (row_at rows (2 * j)) (row_at rows (2 * j + 2)) }
+    ensures first_last { (rows : List (List ℤ)) (j : ℕ) → length rows ≡ 2 * j + 2
+        → row_after 1 rows (2 * j + 1) ≡ lifted_row (step_factor 1) (row_at rows (2 * j + 1))
+        (row_at rows (2 * j)) (row_at rows (2 * j)) }
+    ensures second_top { (rows : List (List ℤ)) → 2 ≤ length rows
+        → row_after 2 rows 0 ≡ lifted_row (step_factor 2) (row_at rows 0) (row_after 1 rows 1) (row_after 1 rows 1) }
+    ensures second_inner { (rows : List (List ℤ)) (j : ℕ) → 2 * j + 3 < length rows
+        → row_after 2 rows (2 * j + 2) ≡ lifted_row (step_factor 2) (row_at rows (2 * j + 2))
+        (row_after 1 rows (2 * j + 1)) (row_after 1 rows (2 * j + 3)) }
+    ensures second_last { (rows : List (List ℤ)) (j : ℕ) → length rows ≡ 2 * j + 3
+        → row_after 2 rows (2 * j + 2) ≡ lifted_row (step_factor 2) (row_at rows (2 * j + 2))
+        (row_after 1 rows (2 * j + 1)) (row_after 1 rows (2 * j + 1)) }
+    ensures third_inner { (rows : List (List ℤ)) (j : ℕ) → 2 * j + 2 < length rows
+        → row_after 3 rows (2 * j + 1) ≡ lifted_row (step_factor 3) (row_after 1 rows (2 * j + 1))
+        (row_after 2 rows (2 * j)) (row_after 2 rows (2 * j + 2)) }
+    ensures third_last { (rows : List (List ℤ)) (j : ℕ) → length rows ≡ 2 * j + 2
+        → row_after 3 rows (2 * j + 1) ≡ lifted_row (step_factor 3) (row_after 1 rows (2 * j + 1))
+        (row_after 2 rows (2 * j)) (row_after 2 rows (2 * j)) }
+    ensures fourth_top { (rows : List (List ℤ)) → 2 ≤ length rows
+        → row_after 4 rows 0 ≡ lifted_row (step_factor 4) (row_after 2 rows 0) (row_after 3 rows 1) (row_after 3 rows 1) }
+    ensures fourth_inner { (rows : List (List ℤ)) (j : ℕ) → 2 * j + 3 < length rows
+        → row_after 4 rows (2 * j + 2) ≡ lifted_row (step_factor 4) (row_after 2 rows (2 * j + 2))
+        (row_after 3 rows (2 * j + 1)) (row_after 3 rows (2 * j + 3)) }
+    ensures fourth_last { (rows : List (List ℤ)) (j : ℕ) → length rows ≡ 2 * j + 3
+        → row_after 4 rows (2 * j + 2) ≡ lifted_row (step_factor 4) (row_after 2 rows (2 * j + 2))
+        (row_after 3 rows (2 * j + 1)) (row_after 3 rows (2 * j + 1)) }
+{}
+
 /// A level by whole rows: the low rows, each of an even row, and then the high ones, each of an odd row.
 pub fn level_laws()
     ensures level { (columns : ℕ) (area : List (List ℤ)) → 0 < columns → 0 < length area → HasColumns columns area
@@ -56,4 +90,16 @@ pub fn quadrant_laws()
         → row_at (quadrant LH area) y ≡ low_half (scaled_row high_factor (row_after 4 area (2 * y + 1))) }
     ensures HH { (area : List (List ℤ)) (y : ℕ)
         → row_at (quadrant HH area) y ≡ high_half (scaled_row high_factor (row_after 4 area (2 * y + 1))) }
+{}
+
+/// How many columns and rows those parts have; all their samples are clamped.
+pub fn quadrant_size_laws()
+    ensures LL { (columns : ℕ) (area : List (List ℤ)) → HasColumns columns area
+        → IsGridOf IsClamped (low_count columns) (low_count (length area)) (quadrant LL area) }
+    ensures HL { (columns : ℕ) (area : List (List ℤ)) → HasColumns columns area
+        → IsGridOf IsClamped (columns / 2) (low_count (length area)) (quadrant HL area) }
+    ensures LH { (columns : ℕ) (area : List (List ℤ)) → HasColumns columns area
+        → IsGridOf IsClamped (low_count columns) (length area / 2) (quadrant LH area) }
+    ensures HH { (columns : ℕ) (area : List (List ℤ)) → HasColumns columns area
+        → IsGridOf IsClamped (columns / 2) (length area / 2) (quadrant HH area) }
 {}
