@@ -1,6 +1,5 @@
 -- The bounds of components.
-use Rattle.wave_laws.specs.Ranges.{IsWithin}
-use Rattle.wave_laws.proofs.Components.{IsSmall-luma, IsSmall-chroma_blue, IsSmall-chroma_red, All-component_planes, All-picture_planes, All-grid_of}
+use Rattle.wave_laws.proofs.Components.{IsSmall-luma, IsSmall-chroma_blue, IsSmall-chroma_red, All-component_planes, All-picture_planes}
 use Rattle.wave_laws.proofs.ranges.component_bound_laws.Goals as goal
 
 pub returns-clause-luma : goal.returns-clause-luma
@@ -17,6 +16,3 @@ returns-clause-planes c = All-component_planes
 
 pub returns-clause-pictures : goal.returns-clause-pictures
 returns-clause-pictures c = All-picture_planes
-
-pub returns-clause-rows : goal.returns-clause-rows
-returns-clause-rows c = λ m. All-grid_of (IsWithin m)
