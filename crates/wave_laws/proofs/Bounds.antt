@@ -11,7 +11,7 @@ use Rattle.std.proofs.Math.Logic.{⊎_elim}
 use Rattle.codec_terms.specs.Wavelet.{sample, scaled}
 use Rattle.codec_laws.proofs.Lists.{All-each}
 use Rattle.wave_laws.specs.Ranges.{IsWithin, IsAtMost}
-use Rattle.wave_laws.specs.Rows.{step_factor, low_factor, high_factor, lifted_by, lifted_row, lifted_odd, lifted_even, odd_once, even_once, odd_twice, even_twice, low_samples, high_samples}
+use Rattle.wave_laws.specs.Rows.{step_factor, low_factor, high_factor, lifted_by, lifted_row, lifted_odd, lifted_even}
 
 -- ---- one sample
 
@@ -53,21 +53,18 @@ first m own before behind big p q r = omega (arith, lifted_bound (step_factor 1)
 pub second : (m : ℕ) (own before behind : ℤ) → 4096 ≤ m → IsAtMost 1000 m own → IsAtMost 4173 m before → IsAtMost 4173 m behind → IsAtMost 1443 m (lifted_by (step_factor 2) own before behind)
 second m own before behind big p q r = omega (arith, lifted_bound (step_factor 2) m 1000 4173 own before behind p q r)
 
-pub third : (m : ℕ) (own before behind : ℤ) → 4096 ≤ m → IsAtMost 4173 m own → IsAtMost 1443 m before → IsAtMost 1443 m behind → IsAtMost 6722 m (lifted_by (step_factor 3) own before behind)
-third m own before behind big p q r = omega (arith, lifted_bound (step_factor 3) m 4173 1443 own before behind p q r)
+pub fourth : (m : ℕ) (own before behind : ℤ) → 4096 ≤ m → IsAtMost 1443 m own → IsAtMost 2111 m before → IsAtMost 2111 m behind → IsAtMost 3316 m (lifted_by (step_factor 4) own before behind)
+fourth m own before behind big p q r = omega (arith, lifted_bound (step_factor 4) m 1443 2111 own before behind p q r)
 
-pub fourth : (m : ℕ) (own before behind : ℤ) → 4096 ≤ m → IsAtMost 1443 m own → IsAtMost 6722 m before → IsAtMost 6722 m behind → IsAtMost 7406 m (lifted_by (step_factor 4) own before behind)
-fourth m own before behind big p q r = omega (arith, lifted_bound (step_factor 4) m 1443 6722 own before behind p q r)
+pub low_scaled : (m : ℕ) (v : ℤ) → 4096 ≤ m → IsAtMost 3316 m v → IsAtMost 2696 m (scaled low_factor v)
+low_scaled m v big p = omega (arith, scaled_bound low_factor m 3316 v p)
 
-pub low_scaled : (m : ℕ) (v : ℤ) → 4096 ≤ m → IsAtMost 7406 m v → IsAtMost 6021 m (scaled low_factor v)
-low_scaled m v big p = omega (arith, scaled_bound low_factor m 7406 v p)
-
-pub high_scaled : (m : ℕ) (v : ℤ) → 4096 ≤ m → IsAtMost 6722 m v → IsAtMost 8270 m (scaled high_factor v)
-high_scaled m v big p = omega (arith, scaled_bound high_factor m 6722 v p)
+pub high_scaled : (m : ℕ) (v : ℤ) → 4096 ≤ m → IsAtMost 2111 m v → IsAtMost 2598 m (scaled high_factor v)
+high_scaled m v big p = omega (arith, scaled_bound high_factor m 2111 v p)
 
 -- ---- lines and rows: what isn't there stands as 0
 
-sample_is : (P : ℤ → Type 0) (line : List ℤ) (i : ℕ) → P (pos 0) → All P line → P (sample line i)
+pub sample_is : (P : ℤ → Type 0) (line : List ℤ) (i : ℕ) → P (pos 0) → All P line → P (sample line i)
 sample_is P line i zero_is each =
     ⊎_elim (λ inside. each i (pos 0) inside) (λ past. subst P (sym (get_or_past line i (pos 0) past)) zero_is) (cases_lt i (length line))
 
@@ -75,14 +72,14 @@ sample_is P line i zero_is each =
 abbrev pub Lifts : ℤ → (ℤ → Type 0) → (ℤ → Type 0) → (ℤ → Type 0) → Type 0
 Lifts k P Q R = (own before behind : ℤ) → P own → Q before → Q behind → R (lifted_by k own before behind)
 
-All-lifted_odd : (k : ℤ) (P Q R : ℤ → Type 0) (even odd : List ℤ) → P (pos 0) → Q (pos 0) → Lifts k P Q R → All P odd → All Q even → All R (lifted_odd k even odd)
+pub All-lifted_odd : (k : ℤ) (P Q R : ℤ → Type 0) (even odd : List ℤ) → P (pos 0) → Q (pos 0) → Lifts k P Q R → All P odd → All Q even → All R (lifted_odd k even odd)
 unfolding lifted_odd
 All-lifted_odd k P Q R even odd p q step own beside =
     let item : ℕ → ℤ = λ i. lifted_by k (sample odd i) (sample even i) (sample even (min (suc i) (length even - 1))) in
     All-map R item (range_with_len 0 (length odd))
     (All-each (λ i. R (item i)) (λ i. step _ _ _ (sample_is P odd i p own) (sample_is Q even i q beside) (sample_is Q even (min (suc i) (length even - 1)) q beside)) (range_with_len 0 (length odd)))
 
-All-lifted_even : (k : ℤ) (P Q R : ℤ → Type 0) (even odd : List ℤ) → P (pos 0) → Q (pos 0) → Lifts k P Q R → All P even → All Q odd → All R (lifted_even k even odd)
+pub All-lifted_even : (k : ℤ) (P Q R : ℤ → Type 0) (even odd : List ℤ) → P (pos 0) → Q (pos 0) → Lifts k P Q R → All P even → All Q odd → All R (lifted_even k even odd)
 unfolding lifted_even
 All-lifted_even k P Q R even odd p q step own beside =
     let item : ℕ → ℤ = λ i. lifted_by k (sample even i) (sample odd (i - 1)) (sample odd (min i (length odd - 1))) in
@@ -99,35 +96,5 @@ All-lifted_row k P Q R row above below p q step own up down =
 pub zero_is : (n m : ℕ) → IsAtMost n m (pos 0)
 zero_is n m = omega arith
 
--- ---- a line
-
--- a line's samples, and those after each step
-pub record LineBounds (m : ℕ) (even odd : List ℤ) : Type 0 where
-  pub odd_once_is : All (IsAtMost 4173 m) (odd_once even odd)
-  pub even_once_is : All (IsAtMost 1443 m) (even_once even odd)
-  pub odd_twice_is : All (IsAtMost 6722 m) (odd_twice even odd)
-  pub even_twice_is : All (IsAtMost 7406 m) (even_twice even odd)
-
 pub whole : (m : ℕ) (line : List ℤ) → All (IsWithin m) line → All (IsAtMost 1000 m) line
 whole m line each = All-weaker (IsWithin m) (IsAtMost 1000 m) (λ v h. omega arith) line each
-
-pub line_bounds : (m : ℕ) (even odd : List ℤ) → 4096 ≤ m → All (IsWithin m) even → All (IsWithin m) odd → LineBounds m even odd
-line_bounds m even odd big evens odds =
-    let zero_of = λ (n : ℕ). zero_is n m in
-    let one = All-lifted_odd (step_factor 1) (IsAtMost 1000 m) (IsAtMost 1000 m) (IsAtMost 4173 m) even odd (zero_of 1000) (zero_of 1000) (λ o b c. first m o b c big) (whole m odd odds) (whole m even evens) in
-    let two = All-lifted_even (step_factor 2) (IsAtMost 1000 m) (IsAtMost 4173 m) (IsAtMost 1443 m) even (odd_once even odd) (zero_of 1000) (zero_of 4173) (λ o b c. second m o b c big) (whole m even evens) one in
-    let three = All-lifted_odd (step_factor 3) (IsAtMost 4173 m) (IsAtMost 1443 m) (IsAtMost 6722 m) (even_once even odd) (odd_once even odd) (zero_of 4173) (zero_of 1443) (λ o b c. third m o b c big) one two in
-    let four = All-lifted_even (step_factor 4) (IsAtMost 1443 m) (IsAtMost 6722 m) (IsAtMost 7406 m) (even_once even odd) (odd_twice even odd) (zero_of 1443) (zero_of 6722) (λ o b c. fourth m o b c big) two three in
-    record { odd_once_is = one; even_once_is = two; odd_twice_is = three; even_twice_is = four }
-
-pub All-low_samples : (m : ℕ) (even odd : List ℤ) → 4096 ≤ m → All (IsWithin m) even → All (IsWithin m) odd → All (IsAtMost 6021 m) (low_samples even odd)
-unfolding low_samples
-All-low_samples m even odd big evens odds =
-    All-map (IsAtMost 6021 m) (scaled low_factor) (even_twice even odd)
-    (All-weaker (IsAtMost 7406 m) (λ v. IsAtMost 6021 m (scaled low_factor v)) (λ v h. low_scaled m v big h) (even_twice even odd) (line_bounds m even odd big evens odds).even_twice_is)
-
-pub All-high_samples : (m : ℕ) (even odd : List ℤ) → 4096 ≤ m → All (IsWithin m) even → All (IsWithin m) odd → All (IsAtMost 8270 m) (high_samples even odd)
-unfolding high_samples
-All-high_samples m even odd big evens odds =
-    All-map (IsAtMost 8270 m) (scaled high_factor) (odd_twice even odd)
-    (All-weaker (IsAtMost 6722 m) (λ v. IsAtMost 8270 m (scaled high_factor v)) (λ v h. high_scaled m v big h) (odd_twice even odd) (line_bounds m even odd big evens odds).odd_twice_is)

@@ -119,7 +119,7 @@ column_at-lifted_rows k parity columns x rows wide each =
     map-stepped (λ row. sample row x) (lifted_row k) (lifted_by k) [] parity rows
     (λ i above below inside. sample-lifted_row k (row_at rows i) above below x (omega (arith, each i [] inside)))
 
-column_at-four : (columns x : ℕ) (rows : List (List ℤ)) → x < columns → HasColumns columns rows
+pub column_at-four : (columns x : ℕ) (rows : List (List ℤ)) → x < columns → HasColumns columns rows
     → column_at (pos 0) x (row_steps 4 rows) ≡ four_steps (column_at (pos 0) x rows)
 unfolding row_steps
 column_at-four columns x rows wide each =

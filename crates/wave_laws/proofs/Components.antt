@@ -2,9 +2,8 @@
 use Rattle.std.proofs.Common.{ℕ, zero, suc, ◌+◌, ◌*◌, ◌^◌, ◌<◌, ◌≤◌, arith, List, [], ◌∷◌, All, ℤ, pos, negsuc, neg_ℤ, ◌+ℤ◌, ◌-ℤ◌, ◌*ℤ◌, unsigned_abs}
 use Rattle.std.specs.Int.{int_shr}
 use Rattle.std.proofs.lemmas.Int.{ints, unsigned_abs-mul}
-use Rattle.std.proofs.lemmas.List.Elements.{All-nil, All-cons, All-head, All-tail, All-take, All-drop}
+use Rattle.std.proofs.lemmas.List.Elements.{All-nil, All-cons, All-head, All-tail}
 use Rattle.codec_terms.specs.Colour.{code_value, xyz_value, xyz_plane, Weights, x_weights, y_weights, z_weights}
-use Rattle.codec_terms.specs.Grid.{grid_of}
 use Rattle.codec_terms.specs.Wavelet.{shifted, luma, chroma_blue, chroma_red, component}
 use Rattle.codec_terms.specs.Encode.{component_planes, picture_planes}
 use Rattle.codec_terms.proofs.ColourLaws.{code_value-greatest}
@@ -112,11 +111,3 @@ pub All-picture_planes : (power : ℕ) (raw : List ℕ) → All (All (IsWithin (
 All-picture_planes power raw =
     All-component_planes (xyz_plane power x_weights raw) (xyz_plane power y_weights raw) (xyz_plane power z_weights raw)
     (All-xyz_plane power x_weights raw) (All-xyz_plane power y_weights raw) (All-xyz_plane power z_weights raw)
-
--- ---- what holds of all samples of a plane holds of those of its rows
-
-pub All-grid_of : (P : ℤ → Type 0) (columns rows : ℕ) (plane : List ℤ) → All P plane → All (All P) (grid_of columns rows plane)
-unfolding grid_of
-All-grid_of P columns zero plane each = All-nil (All P)
-All-grid_of P columns (suc rows) plane each =
-    All-cons (All P) _ (grid_of columns rows _) (All-take P columns plane each) (All-grid_of P columns rows _ (All-drop P columns plane each))

@@ -26,7 +26,7 @@ pub length-lifted : (k : ℤ) (parity : ℕ) (line : List ℤ) → length (lifte
 length-lifted k parity line = rw (lifted-stepped k parity line) (length-stepped (lifted_by k) (pos 0) parity line)
 
 -- a line has these even samples and these odd ones
-record Halves (even odd line : List ℤ) : Type 0 where
+pub record Halves (even odd line : List ℤ) : Type 0 where
   pub two : 2 ≤ length line
   pub even_are : even_samples line ≡ even
   pub odd_are : odd_samples line ≡ odd
@@ -51,7 +51,7 @@ even_step k even odd line h =
       odd_are = odd_samples-odd_items (lifted k 0 line) ∙ (ap odd_items here ∙ (odd_items-kept (lifted_by k) (pos 0) line ∙ (sym (odd_samples-odd_items line) ∙ h.odd_are)));
     }
 
-four : (line : List ℤ) → 2 ≤ length line → Halves (even_twice (even_samples line) (odd_samples line)) (odd_twice (even_samples line) (odd_samples line)) (four_steps line)
+pub four : (line : List ℤ) → 2 ≤ length line → Halves (even_twice (even_samples line) (odd_samples line)) (odd_twice (even_samples line) (odd_samples line)) (four_steps line)
 four line two =
     let even = even_samples line in
     let odd = odd_samples line in

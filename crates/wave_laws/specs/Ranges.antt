@@ -1,5 +1,5 @@
 -- How great samples become.
-use Rattle.std.specs.Prelude.{◌<◌, ◌≤◌, ℕ, ◌*◌, ◌/◌, ◌^◌, List, All, ℤ, unsigned_abs}
+use Rattle.std.specs.Prelude.{◌<◌, ◌≤◌, ℕ, suc, ◌*◌, ◌/◌, ◌^◌, List, All, length, ℤ, unsigned_abs}
 use Rattle.wave_laws.specs.Rows.{odd_once, even_once, odd_twice, even_twice, low_samples, high_samples}
 
 -- not further from 0 than m
@@ -10,19 +10,26 @@ IsWithin m v = unsigned_abs v ≤ m
 abbrev pub IsAtMost : ℕ → ℕ → ℤ → Type 0
 IsAtMost n m v = 1000 * unsigned_abs v ≤ n * m
 
+-- what samples that were within m are within after the five steps of columns
+abbrev pub after_columns : ℕ → ℕ
+after_columns m = 2696 * m / 1000
+
 -- the sum of two such samples fits 32 bits
 abbrev pub HasRoom : ℤ → Type 0
 HasRoom v = unsigned_abs v < 2 ^ 30
 
--- what samples that were within m are within after the five steps of columns
-abbrev pub after_columns : ℕ → ℕ
-after_columns m = 8270 * m / 1000
+-- samples within m, by turns the even and the odd ones of a line
+pub record AreHalvesWithin (m : ℕ) (even odd : List ℤ) : Type 0 where
+  pub fewer : length odd ≤ length even
+  pub most : length even ≤ suc (length odd)
+  pub evens : All (IsWithin m) even
+  pub odds : All (IsWithin m) odd
 
--- P holds of all samples that steps 1 to 4 make of a line, and Q of those that step 5 makes
-pub record HoldInSteps (P Q : ℤ → Type 0) (even odd : List ℤ) : Type 0 where
-  pub first : All P (odd_once even odd)
-  pub second : All P (even_once even odd)
-  pub third : All P (odd_twice even odd)
-  pub fourth : All P (even_twice even odd)
-  pub low : All Q (low_samples even odd)
-  pub high : All Q (high_samples even odd)
+-- all samples that the five steps make of a line have room
+pub record HaveRoom (even odd : List ℤ) : Type 0 where
+  pub first : All HasRoom (odd_once even odd)
+  pub second : All HasRoom (even_once even odd)
+  pub third : All HasRoom (odd_twice even odd)
+  pub fourth : All HasRoom (even_twice even odd)
+  pub low : All HasRoom (low_samples even odd)
+  pub high : All HasRoom (high_samples even odd)
