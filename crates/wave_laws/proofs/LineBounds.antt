@@ -3,7 +3,7 @@ use Rattle.std.proofs.Common.{ℕ, ◌^◌, ◌≤◌, arith, List, All, ℤ}
 use Rattle.std.proofs.lemmas.Nat.{mul-le}
 use Rattle.std.proofs.lemmas.List.Elements.{All-map, All-weaker}
 use Rattle.codec_terms.specs.Wavelet.{scaled, even_samples, odd_samples}
-use Rattle.wave_laws.specs.Ranges.{IsWithin, IsAtMost, after_columns, HasRoom, AreHalvesWithin, HaveRoom}
+use Rattle.wave_laws.specs.Ranges.{IsWithin, IsAtMost, after_columns, line_limit, HasRoom, AreHalvesWithin, HaveRoom}
 use Rattle.wave_laws.specs.Rows.{step_factor, low_factor, high_factor, odd_once, even_once, odd_twice, even_twice, low_samples, high_samples}
 use Rattle.wave_laws.proofs.Halves.{length-even_samples, length-odd_samples, All-even_samples, All-odd_samples}
 use Rattle.wave_laws.proofs.Bounds.{first, second, fourth, low_scaled, high_scaled, zero_is, whole, All-lifted_odd, All-lifted_even}
@@ -46,14 +46,17 @@ All-high_samples m even odd big h =
 
 -- ---- sums of two fit
 
-has_room : (n : ℕ) (line : List ℤ) → n ≤ 4173 → All (IsAtMost n (after_columns (2 ^ 26))) line → All HasRoom line
+has_room : (n : ℕ) (line : List ℤ) → n ≤ 4173 → All (IsAtMost n (line_limit)) line → All HasRoom line
 has_room n line few each =
-    let m : ℕ = after_columns (2 ^ 26) in
+    let m : ℕ = line_limit in
     All-weaker (IsAtMost n m) HasRoom (λ v p. omega (arith, mul-le n m 4173 m few (omega arith))) line each
 
-pub lines_have_room : (even odd : List ℤ) → AreHalvesWithin (after_columns (2 ^ 26)) even odd → HaveRoom even odd
+pub line_limit-enough : after_columns (2 ^ 26) ≤ line_limit
+line_limit-enough = omega arith
+
+pub lines_have_room : (even odd : List ℤ) → AreHalvesWithin (line_limit) even odd → HaveRoom even odd
 lines_have_room even odd h =
-    let m : ℕ = after_columns (2 ^ 26) in
+    let m : ℕ = line_limit in
     let big : 4096 ≤ m = omega arith in
     record {
       first = has_room 4173 (odd_once even odd) (omega arith) (All-odd_once m even odd big h);

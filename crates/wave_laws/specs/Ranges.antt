@@ -14,6 +14,10 @@ IsAtMost n m v = 1000 * unsigned_abs v ≤ n * m
 abbrev pub after_columns : ℕ → ℕ
 after_columns m = 2696 * m / 1000
 
+-- all steps of a line within this leave samples whose sums of two fit 32 bits
+abbrev pub line_limit : ℕ
+line_limit = 250000000
+
 -- the sum of two such samples fits 32 bits
 abbrev pub HasRoom : ℤ → Type 0
 HasRoom v = unsigned_abs v < 2 ^ 30

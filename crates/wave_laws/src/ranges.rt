@@ -8,7 +8,7 @@ ghost use Rattle.wave_laws.specs.Rows.{row_after, low_rows, high_rows, columns_t
 ghost use Rattle.wave_laws.specs.Rows.{odd_once, even_once, odd_twice, even_twice};
 ghost use Rattle.wave_laws.specs.Rows.{low_samples, high_samples};
 ghost use Rattle.wave_laws.specs.Ranges.{IsWithin, IsAtMost, HasRoom, after_columns};
-ghost use Rattle.wave_laws.specs.Ranges.{AreHalvesWithin, HaveRoom};
+ghost use Rattle.wave_laws.specs.Ranges.{line_limit, AreHalvesWithin, HaveRoom};
 
 /// The samples of components: of code values of 12 bits, and of any picture.
 pub fn component_bound_laws()
@@ -78,6 +78,6 @@ pub fn line_bound_laws()
 pub fn room_laws()
     ensures columns { (columns n : ℕ) (rows : List (List ℤ)) (s i : ℕ) → 2 ≤ n
         → IsGridOf (IsWithin (2 ^ 26)) columns n rows → s ≤ 4 → All HasRoom (row_after s rows i) }
-    ensures lines { (even odd : List ℤ) → AreHalvesWithin (after_columns (2 ^ 26)) even odd
-        → HaveRoom even odd }
+    ensures lines { (even odd : List ℤ) → AreHalvesWithin line_limit even odd → HaveRoom even odd }
+    ensures limit { after_columns (2 ^ 26) ≤ line_limit }
 {}
