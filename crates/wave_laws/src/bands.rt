@@ -12,7 +12,8 @@ ghost use Rattle.codec_laws.specs.Bounds.{IsGridOf, IsClamped};
 ghost use Rattle.wave_laws.specs.Rows.{quadrant, low_area};
 ghost use Rattle.wave_laws.specs.SubBands.{IsSubBand, area_after, band_grid};
 
-/// Each sub-band after five levels is a part of what its level makes of the low-low area before it.
+/// Each sub-band after five levels is a part of what its level makes of the low-low area before it, and is
+/// quantised row by row.
 pub fn sub_band_laws()
     ensures part { (shape : Shape) (plane : List ℤ) (band : Band)
         → 17 ≤ shape.width → 17 ≤ shape.height → length plane ≡ shape.width * shape.height
@@ -25,6 +26,8 @@ pub fn sub_band_laws()
         → quantised_band shape (map (wave shape) planes) band
         ≡ map (quantised band)
         (items_of (band_grid shape (slice_index_or planes band.component []) band)) }
+    ensures rows { (band : Band) (grid : List (List ℤ))
+        → map (quantised band) (items_of grid) ≡ items_of (map (map (quantised band)) grid) }
     ensures all { All IsSubBand all_bands }
 {}
 
