@@ -1,5 +1,6 @@
 -- The order of precincts, and that the packets of a component rise in it.
-use Rattle.std.proofs.Common.{◌≡◌, ℕ, zero, suc, ◌*◌, ◌/◌, ◌%◌, ◌<◌, ◌≤◌, refl, sym, ap, subst, inl, inr, arith, Bool, true, false, List, [], ◌∷◌}
+use Rattle.std.proofs.Common.{◌≡◌, ℕ, zero, suc, ◌*◌, ◌/◌, ◌%◌, ◌<◌, ◌≤◌, refl, sym, ap, ap₂, subst, inl, inr, arith, Bool, true, false, List, [], ◌∷◌, length, sum_by, ◌+◌, ◌∙◌}
+use Rattle.std.specs.List.{flat_map, range_with_len}
 use Rattle.std.specs.Prelude.{◌⊎◌, ◌==◌, ◌&&◌, ◌||◌, nat_lt, if◌then◌else◌}
 use Rattle.std.proofs.lemmas.Bool.Decides.{nat_tests}
 use Rattle.std.proofs.lemmas.Nat.{pow_pos, le-div}
@@ -7,6 +8,10 @@ use Rattle.std.proofs.Math.Nat.{mul-lt-mul_of_pos_right, div-mul-le_self, div-ad
 use Rattle.std.proofs.lemmas.Bool.{cases_lt}
 use Rattle.codec_terms.specs.declared.picture.Shape.{Shape}
 use Rattle.codec_terms.specs.Precincts.{Precinct, precinct_at, precinct_side, precinct_columns, precinct_rows, comes_before, placed, sorted, resolution_precincts, all_precincts, packet_order}
+use Rattle.std.proofs.lemmas.List.{length-append}
+use Rattle.std.proofs.lemmas.List.FromFn.{length-map-range_with_len}
+use Rattle.std.proofs.lemmas.List.Sums.{sum_by-cons}
+use Rattle.band_laws.specs.Places.{precinct_count}
 use Rattle.band_laws.proofs.Members.{IsIn, found-map}
 use Rattle.band_laws.proofs.Rising.{Rises, Rises-flat_map, Rises-map, Rises-range}
 
@@ -150,3 +155,32 @@ in-packet_order z shape h = in-sorted z (all_precincts shape) h
 pub found-packet_order : (z : Precinct) (shape : Shape) → IsIn z (packet_order shape) → IsIn z (all_precincts shape)
 unfolding packet_order
 found-packet_order z shape h = found-sorted z (all_precincts shape) h
+
+-- ---- how many there are
+
+length-front : (p q : Precinct) (rest qs : List Precinct) (t : Bool) → length rest ≡ suc (length qs)
+    → length (if t then q ∷ rest else p ∷ q ∷ qs) ≡ suc (suc (length qs))
+length-front p q rest qs true h = ap suc h
+length-front p q rest qs false h = refl
+
+length-placed : (p : Precinct) (qs : List Precinct) → length (placed p qs) ≡ suc (length qs)
+length-placed p [] = refl
+length-placed p (q ∷ qs) = length-front p q (placed p qs) qs (comes_before q p) (length-placed p qs)
+
+length-sorted : (ps : List Precinct) → length (sorted ps) ≡ length ps
+length-sorted [] = refl
+length-sorted (p ∷ ps) = length-placed p (sorted ps) ∙ ap suc (length-sorted ps)
+
+length-all_precincts : (shape : Shape) (rs : List ℕ)
+    → length (flat_map (resolution_precincts shape) rs) ≡ sum_by (precinct_count shape) rs
+length-all_precincts shape [] = refl
+length-all_precincts shape (r ∷ rs) =
+    length-append (resolution_precincts shape r) (flat_map (resolution_precincts shape) rs)
+    ∙ (ap₂ (λ (a b : ℕ). a + b)
+    (length-map-range_with_len (precinct_at r (precinct_columns shape r)) 0 (precinct_count shape r))
+    (length-all_precincts shape rs)
+    ∙ sym (sum_by-cons (precinct_count shape) r rs))
+
+pub length-packet_order : (shape : Shape) → length (packet_order shape) ≡ sum_by (precinct_count shape) (range_with_len 0 6)
+unfolding packet_order
+length-packet_order shape = length-sorted (all_precincts shape) ∙ length-all_precincts shape (range_with_len 0 6)

@@ -37,3 +37,7 @@ place_count shape = precinct_columns shape 5 * precinct_rows shape 5
 
 unfoldable pub precincts_by_place : Shape → List Precinct
 precincts_by_place shape = flat_map (place_precincts shape) (range_with_len 0 (place_count shape))
+
+-- how many precincts resolution r has
+abbrev pub precinct_count : Shape → ℕ → ℕ
+precinct_count shape r = precinct_columns shape r * precinct_rows shape r
