@@ -52,28 +52,32 @@ static double now(void) {
     return t.tv_sec + t.tv_nsec * 1e-9;
 }
 
-// The rows of all sub-bands, or of one level's alone where only isn't 0, one behind the other as they lie in memory.
-static double picture(quantiser *f, int only, const int32_t *values, uint16_t *out) {
+// The rows of all sub-bands, or of one level's alone where only isn't 0, one behind the other as they lie in memory;
+// so many times.
+static double picture(quantiser *f, int only, int times, const int32_t *values, uint16_t *out) {
     double start = now();
-    size_t at = 0;
-    for (int level = 1; level <= 5; level++)
-        for (int kind = level == 5 ? LL : HL; kind <= HH; kind++) {
-            size_t half = (size_t)1 << (level - 1);
-            size_t columns = (WIDTH - (kind == HL || kind == HH ? half : 0) + 2 * half - 1) >> level;
-            size_t rows = (HEIGHT - (kind == LH || kind == HH ? half : 0) + 2 * half - 1) >> level;
-            if (only == 0 || only == level)
-                for (size_t row = 0; row < rows; row++)
-                    f(level, kind, values + at + row * columns, columns, out + at + row * columns, columns);
-            at += columns * rows;
-        }
-    return now() - start;
+    for (int time = 0; time < times; time++) {
+        size_t at = 0;
+        for (int level = 1; level <= 5; level++)
+            for (int kind = level == 5 ? LL : HL; kind <= HH; kind++) {
+                size_t half = (size_t)1 << (level - 1);
+                size_t columns = (WIDTH - (kind == HL || kind == HH ? half : 0) + 2 * half - 1) >> level;
+                size_t rows = (HEIGHT - (kind == LH || kind == HH ? half : 0) + 2 * half - 1) >> level;
+                if (only == 0 || only == level)
+                    for (size_t row = 0; row < rows; row++)
+                        f(level, kind, values + at + row * columns, columns, out + at + row * columns, columns);
+                at += columns * rows;
+            }
+    }
+    return (now() - start) / times;
 }
 
-static void compare(int only, const int32_t *values, uint16_t *c_out, uint16_t *rattle_out, int rounds) {
+static void compare(const char *what, int only, int times, const int32_t *values, uint16_t *c_out, uint16_t *rattle_out,
+                    int rounds) {
     double c_least = 1e9, rattle_least = 1e9;
     for (int round = 0; round < rounds; round++) {
-        double c = picture(c_quantise, only, values, c_out);
-        double rattle = picture(rattle_quantise, only, values, rattle_out);
+        double c = picture(c_quantise, only, times, values, c_out);
+        double rattle = picture(rattle_quantise, only, times, values, rattle_out);
         if (c < c_least) c_least = c;
         if (rattle < rattle_least) rattle_least = rattle;
     }
@@ -81,8 +85,8 @@ static void compare(int only, const int32_t *values, uint16_t *c_out, uint16_t *
         printf("the quantised values differ\n");
         exit(1);
     }
-    printf("  %s %d: C %.3f ms, Rattle %.3f ms, ratio %.2f\n", only ? "level" : "all levels from", only ? only : 1,
-           c_least * 1e3, rattle_least * 1e3, rattle_least / c_least);
+    printf("  %-15s C %.4f ms, Rattle %.4f ms, ratio %.2f\n", what, c_least * 1e3, rattle_least * 1e3,
+           rattle_least / c_least);
 }
 
 int main(int argc, char **argv) {
@@ -98,8 +102,9 @@ int main(int argc, char **argv) {
         int32_t v = (int32_t)(draw & 0x3ffffff) >> (draw >> 26 & 15);
         values[i] = draw >> 31 ? -v : v;
     }
-    compare(0, values, c_out, rattle_out, rounds);
-    compare(1, values, c_out, rattle_out, rounds);
-    compare(5, values, c_out, rattle_out, rounds);
+    compare("a whole picture", 0, 1, values, c_out, rattle_out, rounds);
+    compare("level 1", 1, 1, values, c_out, rattle_out, rounds);
+    compare("level 4", 4, 64, values, c_out, rattle_out, rounds);
+    compare("level 5", 5, 256, values, c_out, rattle_out, rounds);
     return 0;
 }
