@@ -1,5 +1,5 @@
--- The places at which precincts' corners stand: a grid of 256 × 256 samples of the picture, in raster order. At a place
--- stand one precinct of some resolution and one of each above it.
+-- The places at which precincts' corners stand: a grid of 256 × 256 samples of the picture, in
+-- raster order. At a place stand one precinct of some resolution and one of each above it.
 use Rattle.std.specs.Prelude.{ℕ, ◌+◌, ◌-◌, ◌*◌, ◌/◌, ◌^◌, ◌%◌, ◌==◌, Bool, ◌&&◌, if◌then◌else◌, List, map}
 use Rattle.std.specs.List.{flat_map, range_with_len}
 use Rattle.codec_terms.specs.declared.picture.Shape.{Shape}
@@ -22,10 +22,12 @@ first_resolution x y =
 
 abbrev pub precinct_on : Shape → ℕ → ℕ → ℕ → Precinct
 precinct_on shape x y r =
-    precinct_at r (precinct_columns shape r) (precinct_number shape r (x / places_along r) (y / places_along r))
+    precinct_at r (precinct_columns shape r)
+    (precinct_number shape r (x / places_along r) (y / places_along r))
 
 abbrev pub precincts_on : Shape → ℕ → ℕ → List Precinct
-precincts_on shape x y = map (precinct_on shape x y) (range_with_len (first_resolution x y) (6 - first_resolution x y))
+precincts_on shape x y =
+    map (precinct_on shape x y) (range_with_len (first_resolution x y) (6 - first_resolution x y))
 
 -- at the place of this number; the finest resolution has a precinct at each
 abbrev pub place_precincts : Shape → ℕ → List Precinct

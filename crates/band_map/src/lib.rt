@@ -1,4 +1,5 @@
-//! The sizes of sub-bands, precincts and code-blocks, and the order of packets (ITU-T T.800, Annex B).
+//! The sizes of sub-bands, precincts and code-blocks, and the order of packets (ITU-T T.800,
+//! Annex B).
 #![tactic(auto)]
 
 mod bands;

@@ -1,14 +1,14 @@
-ghost use Rattle.std.specs.Prelude.{◌≡◌, ◌<◌, ◌≤◌, ◌*◌, ◌/◌, ◌^◌, length};
+ghost use Rattle.std.specs.Prelude.{◌≡◌, ◌<◌, ◌≤◌, ◌/◌, ◌^◌, length};
 ghost use Rattle.std.specs.List.{slice_get};
 ghost use Rattle.std.specs.Option.{option_map};
-ghost use Rattle.codec_terms.specs.Precincts.{precinct_columns, precinct_rows, precinct_number, packet_order};
-ghost use Rattle.band_laws.specs.Places.{places_along, are_multiples, first_resolution};
+ghost use Rattle.codec_terms.specs.Precincts.{precinct_number, packet_order};
+ghost use Rattle.band_laws.specs.Places.{places_along, are_multiples, first_resolution, precinct_count};
 
 use crate::resolutions::precincts_along;
 use codec_terms::Shape;
 
-// The corners of precincts stand in a grid of places, 256 × 256 samples each. At a place stands one of some resolution,
-// and one of each above it.
+// The corners of precincts stand in a grid of places, 256 × 256 samples each. At a place stands
+// one of some resolution, and one of each above it.
 
 // Whether a precinct of this side has a corner at column x and row y.
 fn is_corner(side: u32, x: u32, y: u32) -> bool
@@ -48,28 +48,31 @@ fn side_of(resolution: u8) -> u32
     }
 }
 
-// The number, in raster order, of a resolution's precinct whose corner stands at column x and row y of the places.
+// The number, in raster order, of a resolution's precinct whose corner stands at column x and
+// row y of the places.
 fn number_at(shape: Shape, resolution: u8, x: u32, y: u32) -> u32
     requires resolution { resolution < 6 }
     requires column { x < 2 ^ 16 }
     requires row { y < 2 ^ 16 }
-    ensures { result ≡ precinct_number shape resolution (x / places_along resolution) (y / places_along resolution) }
+    ensures { result ≡ precinct_number shape resolution
+        (x / places_along resolution) (y / places_along resolution) }
 {
     let side = side_of(resolution);
     y / side * precincts_along(shape.width, resolution) + x / side
 }
 
-fn precinct_count(shape: Shape, resolution: u8) -> u32
-    ensures number { result ≡ precinct_columns shape resolution * precinct_rows shape resolution }
+fn resolution_count(shape: Shape, resolution: u8) -> u32
+    ensures number { result ≡ precinct_count shape resolution }
     ensures few { result ≤ 2 ^ 16 }
 {
     precincts_along(shape.width, resolution) * precincts_along(shape.height, resolution)
 }
 
-/// The resolution and the precinct's number of a component's packet, counted from 0 (CPRL, B.12.1.5), where there are
-/// more packets than that.
+/// The resolution and the precinct's number of a component's packet, counted from 0 (CPRL,
+/// B.12.1.5), where there are more packets than that.
 pub fn packet_at(shape: Shape, n: u32) -> Option<(u8, u32)>
-    ensures { result ≡ option_map (λ p. (p.resolution, p.number)) (slice_get (packet_order shape) n) }
+    ensures { result
+        ≡ option_map (λ p. (p.resolution, p.number)) (slice_get (packet_order shape) n) }
 {
     let columns = precincts_along(shape.width, 5);
     let rows = precincts_along(shape.height, 5);
@@ -94,7 +97,7 @@ pub fn packet_count(shape: Shape) -> u32
 {
     let mut count = 0;
     for resolution in 0..6u8 {
-        count += precinct_count(shape, resolution);
+        count += resolution_count(shape, resolution);
     }
     count
 }

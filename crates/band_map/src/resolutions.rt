@@ -6,7 +6,8 @@ use codec_terms::Shape;
 
 /// How many precincts of a resolution lie along a side of the picture.
 pub(crate) fn precincts_along(side: u16, resolution: u8) -> u32
-    ensures number { result ≡ div_ceil (div_ceil side (2 ^ (5 - resolution))) (2 ^ precinct_exponent resolution) }
+    ensures number { result
+        ≡ div_ceil (div_ceil side (2 ^ (5 - resolution))) (2 ^ precinct_exponent resolution) }
     ensures few { result ≤ 256 }
 {
     let samples = u32::from(side).div_ceil(1 << 5u8.saturating_sub(resolution));

@@ -35,6 +35,7 @@ fn wide_ninth(n: u32) -> u32
     (u64::from(n) * 954437177 >> 33) as u32
 }
 
+/// The word of a sample in steps of five times a power of two.
 pub(crate) fn in_fifths(shift: u32, sample: i32) -> u16
     requires least { 10 ≤ shift }
     requires greatest { shift ≤ 13 }
@@ -44,6 +45,7 @@ pub(crate) fn in_fifths(shift: u32, sample: i32) -> u16
     with_sign(fifth(sample.unsigned_abs() >> shift), sample)
 }
 
+/// The word of a sample in steps of nine times a power of two.
 pub(crate) fn in_ninths(shift: u32, sample: i32) -> u16
     requires least { 10 ≤ shift }
     requires greatest { shift ≤ 11 }
@@ -53,6 +55,7 @@ pub(crate) fn in_ninths(shift: u32, sample: i32) -> u16
     with_sign(ninth(sample.unsigned_abs() >> shift), sample)
 }
 
+/// The same where the power is small, so that more is left of a sample.
 pub(crate) fn in_wide_ninths(shift: u32, sample: i32) -> u16
     requires least { 8 ≤ shift }
     requires greatest { shift ≤ 9 }
@@ -62,7 +65,7 @@ pub(crate) fn in_wide_ninths(shift: u32, sample: i32) -> u16
     with_sign(wide_ninth(sample.unsigned_abs() >> shift), sample)
 }
 
-/// What the lowest sub-band gives: it alone has samples past its last bit-plane.
+/// The word of a sample of the lowest sub-band, which alone has some past its last bit-plane.
 pub(crate) fn in_lowest(sample: i32) -> u16
     ensures { signed_value result ≡ lowest_quantised sample }
 {

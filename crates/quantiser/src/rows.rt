@@ -8,7 +8,8 @@ ghost use Rattle.quantiser.specs.Signed.{magnitude, signed_values};
 use crate::parts::{in_fifths, in_lowest, in_ninths, in_wide_ninths};
 use codec_terms::{Band, BandKind};
 
-// One loop for each divisor, with its product as a literal: as a parameter it would cost a product of 64 bits.
+// One loop for each divisor, with its product as a literal: as a parameter it would cost a
+// product of 64 bits.
 
 fn fifths(shift: u32, values: &[i32], out: &mut [u16])
     requires least { 10 ≤ shift }
@@ -67,8 +68,9 @@ fn doublings(level: u8) -> u32
     }
 }
 
-/// Quantises a row of transformed samples, of which a sub-band's step is a power of two, or of that five or nine times.
-/// A word has the magnitude in bits 0 to 14 and the sample's sign in bit 15, also where the magnitude is 0.
+/// Quantises a row of transformed samples. A sub-band's step is a power of two, or five or nine
+/// times one. A word has the magnitude in bits 0 to 14 and the sample's sign in bit 15, also where
+/// the magnitude is 0.
 pub fn quantise(band: Band, values: &[i32], out: &mut [u16])
     requires length { length values.now ≡ length out.old }
     requires bounds { All (λ v. unsigned_abs v ≤ 2 ^ 26) values.now }
