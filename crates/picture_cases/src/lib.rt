@@ -1,0 +1,5 @@
+//! Tests of what pictures are made of.
+#![tactic(auto)]
+
+#[cfg(test)]
+mod bands;

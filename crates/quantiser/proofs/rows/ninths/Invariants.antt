@@ -1,0 +1,6 @@
+use Rattle.std.proofs.Common.{◌*◌, ◌^◌}
+use Rattle.quantiser.specs.Quotients.{AreDone, divided}
+use Rattle.quantiser.proofs.rows.ninths.Given as goal
+
+abbrev pub invariant-loop-i : goal.invariant-loop-i
+invariant-loop-i l = AreDone (divided (2 ^ l.fn.shift * 9)) l.i l.values l.out
