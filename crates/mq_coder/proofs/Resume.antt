@@ -1,13 +1,14 @@
 -- An ending, and the codeword that is made from it.
-use Rattle.std.proofs.Common.{subst, ◌≡◌, ℕ, ◌+◌, ◌-◌, ◌*◌, ◌/◌, ◌%◌, ◌^◌, ◌<◌, ◌≤◌, ◌≢◌, List, [], ◌∷◌, ◌++◌, reverse, length, take, refl, sym, ap, ◌∙◌, arith, append_assoc, inl, inr, zero, suc}
+use Rattle.std.proofs.Common.{subst, ◌≡◌, ℕ, ◌+◌, ◌-◌, ◌*◌, ◌/◌, ◌%◌, ◌^◌, ◌<◌, ◌≤◌, ◌≢◌, List, [], ◌∷◌, ◌++◌, reverse, length, map, take, get_or, refl, sym, ap, ◌∙◌, arith, append_assoc, inl, inr, zero, suc}
 use Rattle.std.specs.Prelude.{bit_and}
-use Rattle.std.proofs.lemmas.List.{reverse-reverse, length-reverse, reverse-append}
+use Rattle.std.proofs.lemmas.List.{reverse-reverse, length-reverse, reverse-append, map_more}
 use Rattle.std.proofs.lemmas.Nat.{and_mask}
 use Rattle.codec_terms.specs.Mq.{Registers, Decision, last_byte, behind, coded, coded_from, start, codeword, without_last_ff, with_carry, doubled, renormalised, lower_part, upper_part, coded_one, state_at, is_mps, qe_of, Encoder}
-use Rattle.mq_coder.specs.Endings.{Continues, ending_of}
+use Rattle.mq_coder.specs.Endings.{Continues, ending_of, interval_at}
 use Rattle.mq_coder.specs.Marks.{mark_of}
 use Rattle.mq_laws.specs.Ready.{Clean, Ready, Sound, Valid}
-use Rattle.mq_coder.specs.Bytes.{with_last, registers_of}
+use Rattle.mq_coder.specs.Bytes.{with_last, registers_of, IsGrown}
+use Rattle.mq_coder.specs.Runs.{encoder_at}
 use Rattle.mq_coder.specs.Tails.{IsTail}
 use Rattle.mq_coder.specs.declared.interval.Interval.{Interval}
 use Rattle.mq_coder.specs.declared.tail.Tail.{Tail}
@@ -15,9 +16,10 @@ use Rattle.mq_coder.proofs.Endings.{flushed-is}
 use Rattle.mq_coder.specs.declared.ending.Ending.{Ending}
 use Rattle.mq_laws.proofs.Decisions.{ready-coded_from, renorm-zero, renorm-cases, part-cases, valid-part, coded-registers, ready-coded_one, coded_from-cons, coded_from-nil}
 use Rattle.mq_laws.specs.Parts.{part_kept}
+use Rattle.mq_laws.proofs.Lengths.{part-bytes, coded-ready, grows-coded_from}
 use Rattle.mq_laws.proofs.Sound.{Out}
 use Rattle.mq_laws.proofs.Steps.{regs, ct-form, doubled-quiet, doubled-out, valid-doubled}
-use Rattle.mq_coder.proofs.Outputs.{reverse-push}
+use Rattle.mq_coder.proofs.Outputs.{reverse-push, front-take}
 use Rattle.mq_laws.proofs.ReadBack.{ready-start}
 
 pub behind-length : (l : List ℕ) → length (behind l) ≡ length l - 1
@@ -36,10 +38,6 @@ mark-of (b ∷ l) p = refl
 pub mark-reverse : (bytes : List ℕ) → length bytes ≢ 0 → 0x1000000 + last_byte (reverse bytes) * 0x10000 ≡ mark_of (reverse bytes)
 mark-reverse bytes p = mark-of (reverse bytes) (omega (arith, length-reverse bytes))
 
-pub ready-coded : (ds : List Decision) → Ready (coded ds).registers
-unfolding coded
-ready-coded ds = ready-coded_from start ds ready-start
-
 -- what an ending keeps of the registers
 pub record Holds (r : Registers) (bytes : List ℕ) (en : Ending) : Type 0 where
   pub a : en.a ≡ r.a + mark_of r.bytes
@@ -57,7 +55,7 @@ holds ds bytes en k =
       ct = ap (λ e. e.ct) k.taken;
       kept = ap (λ e. e.kept) k.taken;
       begins = k.begins;
-      ready = ready-coded ds;
+      ready = coded-ready ds;
     }
 
 mark-small : (l : List ℕ) → Clean l → mark_of l % 0x10000 ≡ 0
@@ -70,12 +68,12 @@ low-half r bytes en h =
     ∙ omega (arith, h.a, h.ready.valid.narrow, mark-small r.bytes h.ready.valid.sound.clean)
 
 by-bytes-none :
-    (a en_a : ℕ) (l : List ℕ) → a < 2 ^ 16 → en_a ≡ a + mark_of l → en_a / 2 ^ 24 ≤ 0 → l ≡ []
+    (a en_a : ℕ) (l : List ℕ) → a < 2 ^ 16 → en_a ≡ a + mark_of l → en_a < 0x1000000 → l ≡ []
 by-bytes-none a en_a [] p e q = refl
 by-bytes-none a en_a (b ∷ l) p e q = absurd (omega arith)
 
 pub begun-none :
-    (r : Registers) (bytes : List ℕ) (en : Ending) → Holds r bytes en → en.a / 2 ^ 24 ≤ 0 →
+    (r : Registers) (bytes : List ℕ) (en : Ending) → Holds r bytes en → en.a < 0x1000000 →
     reverse (take en.kept bytes) ≡ r.bytes
 unfolding behind
 begun-none r bytes en h p =
@@ -83,7 +81,7 @@ begun-none r bytes en h p =
     ap reverse (h.begins ∙ ap (λ l. reverse (behind l)) none) ∙ sym none
 
 mark-byte :
-    (a en_a : ℕ) (l : List ℕ) → a < 2 ^ 16 → Clean l → en_a ≡ a + mark_of l → 0 < en_a / 2 ^ 24 →
+    (a en_a : ℕ) (l : List ℕ) → a < 2 ^ 16 → Clean l → en_a ≡ a + mark_of l → 0x1000000 ≤ en_a →
     (bit_and (en_a / 2 ^ 16) 255) ∷ behind l ≡ l
 unfolding behind Clean
 mark-byte a en_a [] p k e q = absurd (omega arith)
@@ -92,12 +90,19 @@ mark-byte a en_a (b ∷ l) p k e q =
     ap (λ x. x ∷ l) low
 
 pub begun-some :
-    (r : Registers) (bytes out : List ℕ) (en : Ending) → Holds r bytes en → 0 < en.a / 2 ^ 24 →
-    out ≡ take en.kept bytes ++ (bit_and (en.a / 2 ^ 16) 255) ∷ [] → reverse out ≡ r.bytes
-begun-some r bytes out en h p q =
-    ap reverse q ∙ reverse-push (take en.kept bytes) (bit_and (en.a / 2 ^ 16) 255)
+    (r : Registers) (bytes : List ℕ) (en : Ending) → Holds r bytes en → 0x1000000 ≤ en.a →
+    reverse (take en.kept bytes ++ (bit_and (en.a / 2 ^ 16) 255) ∷ []) ≡ r.bytes
+begun-some r bytes en h p =
+    reverse-push (take en.kept bytes) (bit_and (en.a / 2 ^ 16) 255)
     ∙ ap (λ l. (bit_and (en.a / 2 ^ 16) 255) ∷ l) (ap reverse h.begins ∙ reverse-reverse (behind r.bytes))
     ∙ mark-byte r.a en.a r.bytes h.ready.valid.narrow h.ready.valid.sound.clean h.a p
+
+-- the registers of a coder that goes on
+pub again :
+    (r : Registers) (bytes out : List ℕ) (en : Ending) (at : Interval) → Holds r bytes en → reverse out ≡ r.bytes →
+    at ≡ interval_at en → registers_of at out ≡ r
+again r bytes out en at h is_out is_at =
+    rw (is_at, low-half r bytes en h, h.c, h.ct, is_out) refl
 
 -- ---- the end of the codeword, from the registers that an ending keeps
 
@@ -212,21 +217,12 @@ renorm-begins (suc n) r v =
     (doubled-begins r v low) (renorm-begins n (doubled r) (valid-doubled r v low)))
     (λ _. begins-self (behind r.bytes))
 
-lower-bytes : (qe : ℕ) (r : Registers) → (lower_part qe r).bytes ≡ r.bytes
-unfolding lower_part
-lower-bytes qe r = refl
-
-upper-bytes : (qe : ℕ) (r : Registers) → (upper_part qe r).bytes ≡ r.bytes
-unfolding upper_part
-upper-bytes qe r = refl
-
 one-begins : (e : Encoder) (d : Decision) → Ready e.registers → Begins (behind e.registers.bytes) (behind (coded_one e d).registers.bytes)
 one-begins e d ready =
     let s = state_at e.states d.context in
     let m = is_mps d.bit s in
     let p = part_kept m (qe_of s) e.registers in
-    let same : p.bytes ≡ e.registers.bytes =
-    part-cases m (qe_of s) e.registers (λ x. x.bytes ≡ e.registers.bytes) (λ _. lower-bytes (qe_of s) e.registers) (λ _. upper-bytes (qe_of s) e.registers) in
+    let same : p.bytes ≡ e.registers.bytes = part-bytes m (qe_of s) e.registers in
     subst (λ x. Begins (behind e.registers.bytes) (behind x.bytes)) (sym (coded-registers e d ready.high))
     (subst (λ l. Begins (behind l) (behind (renormalised 15 p).bytes)) same (renorm-begins 15 p (valid-part m s e.registers ready)))
 
@@ -262,12 +258,39 @@ continues-later ds later en p =
           ap (λ n. take n (reverse (coded_from (coded ds) later).registers.bytes)) kept
           ∙ kept-front (coded ds).registers.bytes (coded_from (coded ds) later).registers.bytes
           (whole-begins (coded ds).registers.bytes (coded_from (coded ds) later).registers.bytes
-          (coded-begins (coded ds) later (ready-coded ds)));
+          (coded-begins (coded ds) later (coded-ready ds)));
     }
 
--- ---- one decision more
+-- ---- a run of decisions
+
+pub run-none : (e : Encoder) (f : ℕ → Decision) (xs : List ℕ) → e ≡ coded_from e (map f (take 0 xs))
+unfolding coded_from
+run-none e f xs = refl
 
 coded_from-push : (e : Encoder) (ds : List Decision) (d : Decision) → coded_from e (ds ++ d ∷ []) ≡ coded_one (coded_from e ds) d
 unfolding coded_from
 coded_from-push e [] d = refl
 coded_from-push e (x ∷ ds) d = coded_from-push (coded_one e x) ds d
+
+pub run-more : (e e1 e2 : Encoder) (f : ℕ → Decision) (xs : List ℕ) (i : ℕ) → i < length xs →
+    e1 ≡ coded_from e (map f (take i xs)) → e2 ≡ coded_one e1 (f (get_or xs i 0)) → e2 ≡ coded_from e (map f (take (i + 1) xs))
+run-more e e1 e2 f xs i p so_far next =
+    next ∙ ap (λ x. coded_one x (f (get_or xs i 0))) so_far
+    ∙ sym (ap (coded_from e) (map_more f xs i 0 p) ∙ coded_from-push e (map f (take i xs)) (f (get_or xs i 0)))
+
+pub run-grown : (at now : Interval) (before after states states' : List ℕ) (ds : List Decision) → Ready (registers_of at before) →
+    encoder_at now after states' ≡ coded_from (encoder_at at before states) ds → IsGrown before after
+run-grown at now before after states states' ds ready same =
+    let e = encoder_at at before states in
+    let bytes : reverse after ≡ (coded_from e ds).registers.bytes = ap (λ x. x.registers.bytes) same in
+    let begins : Begins (behind (reverse before)) (behind (reverse after)) =
+    subst (λ l. Begins (behind (reverse before)) (behind l)) (sym bytes) (coded-begins e ds ready) in
+    let size : length (behind (reverse before)) ≡ length before - 1 = sym (front-length before) in
+    let front : reverse (behind (reverse before)) ≡ take (length before - 1) before =
+    ap reverse (sym (front-take before)) ∙ reverse-reverse (take (length before - 1) before) in
+    record {
+      more = omega (arith, grows-coded_from e ds ready, ap length bytes, length-reverse before, length-reverse after);
+      front =
+          ap (λ n. take n after) (sym size) ∙ ap (take (length (behind (reverse before)))) (sym (reverse-reverse after))
+          ∙ kept-front (reverse before) (reverse after) (whole-begins (reverse before) (reverse after) begins) ∙ front;
+    }

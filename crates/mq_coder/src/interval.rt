@@ -1,10 +1,11 @@
 ghost use Rattle.std.specs.Prelude.{◌≡◌, ◌+◌, ◌-◌, ◌*◌, ◌/◌, ◌%◌, ◌^◌, ◌<◌, ◌≤◌, ◌∷◌, IfOk, OnOk, OnErr, ℕ, List, reverse};
-ghost use Rattle.codec_terms.specs.Mq.{last_byte, behind};
+ghost use Rattle.codec_terms.specs.Mq.{last_byte, behind, renormalised};
 ghost use Rattle.mq_coder.specs.Bytes.{with_last, registers_of, IsNext, doublings};
 ghost use Rattle.mq_laws.specs.Parts.{part_kept};
 ghost use Rattle.mq_laws.specs.Ready.{Valid};
 
-use mast_base::{Bytes, NoMemory};
+use crate::output::Output;
+use mast_base::NoMemory;
 
 /// The interval A, the code register C, and the doublings CT before the next byte.
 #[derive(Clone, Copy, Debug)]
@@ -13,6 +14,13 @@ pub(crate) struct Interval {
     pub(crate) c: u32,
     pub(crate) ct: u32,
 }
+
+/// The first interval (INITENC, C.2.8).
+pub(crate) const FIRST: Interval = Interval {
+    a: 0x8000,
+    c: 0,
+    ct: 12,
+};
 
 /// A byte that comes out, and what it leaves.
 #[derive(Clone, Copy, Debug)]
@@ -84,7 +92,7 @@ pub(crate) fn last_of(bytes: &[u8]) -> u8
 }
 
 /// Puts the byte behind the others, the last one of which becomes `last`.
-pub(crate) fn put(bytes: &mut Bytes, last: u8, byte: u8) -> Result<(), NoMemory>
+pub(crate) fn put(bytes: &mut Output, last: u8, byte: u8) -> Result<(), NoMemory>
     ensures ok { OnOk result (reverse bytes.new ≡ byte ∷ with_last last (reverse bytes.old)) }
     ensures err { OnErr result (bytes.new ≡ bytes.old) }
 {
@@ -97,11 +105,11 @@ pub(crate) fn put(bytes: &mut Bytes, last: u8, byte: u8) -> Result<(), NoMemory>
 }
 
 // Takes the last byte away, and a carry from the one before it.
-fn take_back(bytes: &mut Bytes, last: u8)
+fn take_back(bytes: &mut Output, last: u8)
     ensures { reverse bytes.new ≡ with_last last (behind (reverse bytes.old)) }
 {
-    let _byte = bytes.pop();
-    let len = bytes.len();
+    let len = bytes.len().saturating_sub(1);
+    bytes.truncate(len);
     if 0 < len {
         bytes.set(len - 1, last);
     }
@@ -124,7 +132,7 @@ pub(crate) fn shifted(at: Interval, shift: u32) -> Interval
 
 /// The interval after `shift` doublings, with the bytes that they put out (RENORME, C.2.6).
 /// After `NoMemory` the bytes are as they were.
-pub(crate) fn doubled(bytes: &mut Bytes, at: Interval, shift: u32) -> Result<Interval, NoMemory>
+pub(crate) fn doubled(bytes: &mut Output, at: Interval, shift: u32) -> Result<Interval, NoMemory>
     requires valid { Valid (registers_of at bytes.old) }
     requires narrow { at.a * 2 ^ shift < 2 ^ 16 }
     ensures ok { IfOk result (λ r. doublings shift (registers_of at bytes.old) ≡ registers_of r bytes.new) }
@@ -154,21 +162,42 @@ pub(crate) fn doubled(bytes: &mut Bytes, at: Interval, shift: u32) -> Result<Int
     }
 }
 
-/// The part of the interval that a decision keeps (CODEMPS and CODELPS, C.2.4).
+/// The interval after as many doublings as bring A to 8000, with the bytes that they put out (RENORME, C.2.6).
+/// After `NoMemory` the bytes are as they were.
+pub(crate) fn renormalise(bytes: &mut Output, at: Interval) -> Result<Interval, NoMemory>
+    requires { Valid (registers_of at bytes.old) }
+    ensures ok { IfOk result (λ r. renormalised 15 (registers_of at bytes.old) ≡ registers_of r bytes.new) }
+    ensures err { OnErr result (bytes.new ≡ bytes.old) }
+{
+    let shift = at.a.leading_zeros() - 16;
+    if shift < at.ct {
+        return Ok(shifted(at, shift));
+    }
+    // By its fields: a struct that is copied whole goes through memory here.
+    let whole = Interval {
+        a: at.a,
+        c: at.c,
+        ct: at.ct,
+    };
+    doubled(bytes, whole, shift)
+}
+
+/// The part of the interval that a decision keeps (CODEMPS and CODELPS, C.2.4): where Qe stands in order, the upper
+/// part for the more probable symbol, and the lower one where the two have changed places. By masks, since a branch
+/// would go either way about as often.
 pub(crate) fn part_of(at: Interval, qe: u32, is_mps: bool) -> Interval
     requires qe { qe ≤ 0x5601 }
     requires wide { 0x8000 ≤ at.a }
+    requires narrow { at.a < 2 ^ 16 }
     requires code { at.c < 2 ^ 28 }
     ensures { (bytes : List ℕ) → registers_of result bytes ≡ part_kept is_mps qe (registers_of at bytes) }
 {
-    let rest = at.a - qe;
-    if (rest < qe) == is_mps {
-        Interval { a: qe, ..at }
-    } else {
-        Interval {
-            a: rest,
-            c: at.c + qe,
-            ct: at.ct,
-        }
+    // Its sign is that of A - Qe against Qe.
+    let less = at.a.wrapping_sub(2 * qe);
+    let upper = if (less >> 31 == 1) != is_mps { 0xffff_ffff } else { 0 };
+    Interval {
+        a: qe.wrapping_add(less & upper),
+        c: at.c + (qe & upper),
+        ct: at.ct,
     }
 }
