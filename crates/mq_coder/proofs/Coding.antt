@@ -12,8 +12,7 @@ use Rattle.mq_laws.specs.Ready.{Clean, Carries, Valid, Ready}
 use Rattle.mq_coder.specs.Rows.{state_of, HasStates, IsRow, IsStep}
 use Rattle.mq_coder.specs.declared.rows.Row.{Row}
 use Rattle.mq_coder.specs.declared.rows.Step.{Step}
-use Rattle.mq_laws.proofs.Decisions.{lower-width, upper-width, renorm-done, part-cases, valid-part, ready-part, coded-registers, coded-states, states_coded-is, qe-small}
-use Rattle.mq_coder.proofs.Table.{beq-true}
+use Rattle.mq_laws.proofs.Decisions.{lower-width, upper-width, renorm-done, part-cases, valid-part, coded-registers, coded-states, states_coded-is, qe-small}
 use Rattle.mq_coder.proofs.Doublings.{doublings-renormalise, quiet, regs-eq}
 use Rattle.mq_coder.specs.declared.interval.Interval.{Interval}
 
@@ -54,7 +53,7 @@ sign-is : (qe a : ℕ) → qe ≤ 0x5601 → 0x8000 ≤ a → a < 2 ^ 16 → ((a
 sign-is qe a small wide narrow = elim (cases_lt (a - qe) qe) [
   | inl p ↦ eq-eqb ((a + (2 ^ 32 - 2 * qe)) % 2 ^ 32 / 2 ^ 31) 1 (omega arith) ∙ sym (lt-ltb (a - qe) qe p)
   | inr p ↦ ne_eqb ((a + (2 ^ 32 - 2 * qe)) % 2 ^ 32 / 2 ^ 31) 1 (λ (e : (a + (2 ^ 32 - 2 * qe)) % 2 ^ 32 / 2 ^ 31 ≡ 1). absurd (omega (arith, e)))
-  ∙ sym (le-ltb (a - qe) qe p)
+      ∙ sym (le-ltb (a - qe) qe p)
 ]
 
 pub masked-upper :

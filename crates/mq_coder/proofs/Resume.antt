@@ -1,9 +1,9 @@
 -- An ending, and the codeword that is made from it.
 use Rattle.std.proofs.Common.{subst, ◌≡◌, ℕ, ◌+◌, ◌-◌, ◌*◌, ◌/◌, ◌%◌, ◌^◌, ◌<◌, ◌≤◌, ◌≢◌, List, [], ◌∷◌, ◌++◌, reverse, length, map, take, get_or, refl, sym, ap, ◌∙◌, arith, append_assoc, inl, inr, zero, suc}
 use Rattle.std.specs.Prelude.{bit_and}
-use Rattle.std.proofs.lemmas.List.{reverse-reverse, length-reverse, reverse-append, map_more}
+use Rattle.std.proofs.lemmas.List.{reverse-reverse, length-reverse, reverse-append, map_more, take-append-le}
 use Rattle.std.proofs.lemmas.Nat.{and_mask}
-use Rattle.codec_terms.specs.Mq.{Registers, Decision, last_byte, behind, coded, coded_from, start, codeword, without_last_ff, with_carry, doubled, renormalised, lower_part, upper_part, coded_one, state_at, is_mps, qe_of, Encoder}
+use Rattle.codec_terms.specs.Mq.{Registers, Decision, last_byte, behind, coded, coded_from, start, codeword, without_last_ff, with_carry, doubled, renormalised, coded_one, state_at, is_mps, qe_of, Encoder}
 use Rattle.mq_coder.specs.Endings.{Continues, ending_of, interval_at}
 use Rattle.mq_coder.specs.Marks.{mark_of}
 use Rattle.mq_laws.specs.Ready.{Clean, Ready, Sound, Valid}
@@ -14,13 +14,12 @@ use Rattle.mq_coder.specs.declared.interval.Interval.{Interval}
 use Rattle.mq_coder.specs.declared.tail.Tail.{Tail}
 use Rattle.mq_coder.proofs.Endings.{flushed-is}
 use Rattle.mq_coder.specs.declared.ending.Ending.{Ending}
-use Rattle.mq_laws.proofs.Decisions.{ready-coded_from, renorm-zero, renorm-cases, part-cases, valid-part, coded-registers, ready-coded_one, coded_from-cons, coded_from-nil}
+use Rattle.mq_laws.proofs.Decisions.{renorm-zero, renorm-cases, valid-part, coded-registers, ready-coded_one, coded_from-cons, coded_from-nil}
 use Rattle.mq_laws.specs.Parts.{part_kept}
 use Rattle.mq_laws.proofs.Lengths.{part-bytes, coded-ready, grows-coded_from}
 use Rattle.mq_laws.proofs.Sound.{Out}
 use Rattle.mq_laws.proofs.Steps.{regs, ct-form, doubled-quiet, doubled-out, valid-doubled}
 use Rattle.mq_coder.proofs.Outputs.{reverse-push, front-take}
-use Rattle.mq_laws.proofs.ReadBack.{ready-start}
 
 pub behind-length : (l : List ℕ) → length (behind l) ≡ length l - 1
 unfolding behind
@@ -248,17 +247,19 @@ whole-begins before after p = begins-trans (behind before) (behind after) after 
 
 -- an ending goes on over the bytes of the same coder after any further decisions
 pub continues-later :
-    (ds later : List Decision) (en : Ending) → en ≡ ending_of (coded ds) →
-    Continues ds (reverse (coded_from (coded ds) later).registers.bytes) en
-continues-later ds later en p =
-    let kept : en.kept ≡ length (behind (coded ds).registers.bytes) = ap (λ e. e.kept) p in
+    (ds later : List Decision) (rest : List ℕ) →
+    Continues ds (reverse (coded_from (coded ds) later).registers.bytes ++ rest) (ending_of (coded ds))
+continues-later ds later rest =
+    let before = (coded ds).registers.bytes in
+    let after = (coded_from (coded ds) later).registers.bytes in
+    let begins = coded-begins (coded ds) later (coded-ready ds) in
+    let within : length (behind before) ≤ length (reverse after) =
+    omega (arith, behind-length before, length-reverse after, grows-coded_from (coded ds) later (coded-ready ds)) in
     record {
-      taken = p;
+      taken = refl;
       begins =
-          ap (λ n. take n (reverse (coded_from (coded ds) later).registers.bytes)) kept
-          ∙ kept-front (coded ds).registers.bytes (coded_from (coded ds) later).registers.bytes
-          (whole-begins (coded ds).registers.bytes (coded_from (coded ds) later).registers.bytes
-          (coded-begins (coded ds) later (coded-ready ds)));
+          take-append-le (length (behind before)) (reverse after) rest within
+          ∙ kept-front before after (whole-begins before after begins);
     }
 
 -- ---- a run of decisions

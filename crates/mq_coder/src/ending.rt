@@ -1,6 +1,6 @@
-ghost use Rattle.std.specs.Prelude.{◌≡◌, ◌+◌, ◌*◌, ◌<◌, IfOk, OnOk, OnErr, List, length, reverse};
-ghost use Rattle.codec_terms.specs.Mq.{Decision, behind, coded, codeword};
-ghost use Rattle.mq_coder.specs.Endings.{Continues, interval_at};
+ghost use Rattle.std.specs.Prelude.{◌≡◌, ◌+◌, ◌*◌, ◌<◌, IfOk, OnOk, OnErr, ℕ, List, ◌++◌, length, reverse};
+ghost use Rattle.codec_terms.specs.Mq.{Decision, behind, coded, coded_from, codeword};
+ghost use Rattle.mq_coder.specs.Endings.{Continues, ending_of, interval_at};
 ghost use Rattle.mq_coder.specs.Marks.{mark_of};
 
 use crate::interval::{Interval, last_of};
@@ -84,3 +84,9 @@ pub fn flushed(alloc: Global, bytes: &[u8], ending: &Ending) -> Result<Bytes, No
     end_with(&mut out, tail)?;
     Ok(out.into_bytes())
 }
+
+/// An ending goes on over the bytes that its encoder has put out at any later time, whatever stands behind them.
+pub fn ending_laws()
+    ensures { (ds later : List Decision) (rest : List ℕ)
+        → Continues ds (reverse (coded_from (coded ds) later).registers.bytes ++ rest) (ending_of (coded ds)) }
+{}

@@ -194,7 +194,11 @@ pub(crate) fn part_of(at: Interval, qe: u32, is_mps: bool) -> Interval
 {
     // Its sign is that of A - Qe against Qe.
     let less = at.a.wrapping_sub(2 * qe);
-    let upper = if (less >> 31 == 1) != is_mps { 0xffff_ffff } else { 0 };
+    let upper = if (less >> 31 == 1) != is_mps {
+        0xffff_ffff
+    } else {
+        0
+    };
     Interval {
         a: qe.wrapping_add(less & upper),
         c: at.c + (qe & upper),

@@ -13,6 +13,6 @@ mod states;
 mod tail;
 
 pub use coder::Coder;
-pub use ending::{Ending, flushed};
+pub use ending::{Ending, ending_laws, flushed};
 pub use reader::Reader;
 pub use states::States;

@@ -7,7 +7,7 @@ use Rattle.std.proofs.lemmas.List.{length-reverse}
 use Rattle.codec_terms.specs.Mq.{Registers, Encoder, Decision, last_byte, with_carry, byte_out, carried_byte_out, whole_byte_out, stuffed_byte_out, out_at_zero, doubled, renormalised, lower_part, upper_part, state_at, is_mps, qe_of, coded_one, coded_from, coded, start, bits_set, shifted_out, without_last_ff, flushed_bytes, codeword}
 use Rattle.mq_laws.specs.Parts.{part_kept}
 use Rattle.mq_laws.specs.Ready.{Sound, Valid, Ready}
-use Rattle.mq_laws.proofs.Numbers.{room, last-cons}
+use Rattle.mq_laws.proofs.Numbers.{room}
 use Rattle.mq_laws.proofs.Sound.{Out}
 use Rattle.mq_laws.proofs.Steps.{regs, ct-form, doubled-quiet, doubled-out, valid-doubled}
 use Rattle.mq_laws.proofs.Decisions.{renorm-zero, renorm-cases, part-cases, valid-part, coded-registers, ready-coded_one, ready-coded_from, coded_from-cons, coded_from-nil}

@@ -3,14 +3,15 @@
 #![tactic(auto)]
 
 ghost use Rattle.std.specs.Prelude.{◌≡◌, ◌+◌, ◌*◌, ◌≤◌, List, ◌++◌, length};
-ghost use Rattle.codec_terms.specs.Mq.{Decision, contexts_of, bits_of, codeword, decoded, coded};
+ghost use Rattle.codec_terms.specs.Mq.{Decision, contexts_of, bits_of, codeword, decoded, coded, coded_from};
 ghost use Rattle.mq_laws.specs.Ready.{Ready};
 
 /// Between decisions the encoder's registers are ready for any decision, and the codeword of decisions, read in
-/// their contexts in order, gives their bits.
+/// their contexts in order, gives their bits. Coding goes on from where it was.
 pub fn coder_laws()
     ensures ready { (ds : List Decision) → Ready (coded ds).registers }
     ensures read_back { (ds : List Decision) → decoded (codeword ds) (contexts_of ds) ≡ bits_of ds }
+    ensures further { (ds es : List Decision) → coded_from (coded ds) es ≡ coded (ds ++ es) }
 {}
 
 /// The bytes that came out of the encoder. Further decisions take none away, and each brings at most two, up to one

@@ -1,8 +1,7 @@
-use Rattle.std.proofs.Common.{◌≡◌, ◌+◌, ◌*◌, ◌^◌, ◌≤◌, reverse, ap, subst, sym, ◌∙◌}
+use Rattle.std.proofs.Common.{◌≡◌, reverse, ap, subst, sym, ◌∙◌}
 use Rattle.codec_terms.specs.Mq.{last_byte, coded}
 use Rattle.mq_laws.specs.Ready.{Ready}
 use Rattle.mq_laws.proofs.Lengths.{coded-ready}
-use Rattle.mq_coder.specs.Bytes.{registers_of}
 use Rattle.mq_coder.proofs.Coding.{enc}
 use Rattle.mq_coder.proofs.Endings.{flushed-is, codeword-is}
 use Rattle.mq_coder.proofs.Resume.{holds, again}

@@ -1,5 +1,4 @@
-use Rattle.std.proofs.Common.{◌≡◌, ◌<◌, ◌-◌, length, set, take, reverse, ap, sym, ◌∙◌, arith}
-use Rattle.codec_terms.specs.Mq.{behind}
+use Rattle.std.proofs.Common.{◌≡◌, ◌-◌, length, set, take, reverse, ap, sym, ◌∙◌, arith}
 use Rattle.mq_coder.specs.Bytes.{with_last}
 use Rattle.mq_coder.proofs.Outputs.{set-last, front-take, with_last-empty}
 use Rattle.std.proofs.lemmas.List.{length-take-le}

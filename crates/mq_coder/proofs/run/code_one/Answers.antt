@@ -1,8 +1,8 @@
-use Rattle.std.proofs.Common.{◌≡◌, ◌/◌, ◌%◌, cond, get_or, ap, subst, sym, ◌∙◌, arith}
+use Rattle.std.proofs.Common.{◌≡◌, ◌/◌, cond, get_or, ap, subst, sym, ◌∙◌, arith}
 use Rattle.std.specs.Prelude.{◌==◌, bit_and, nat_lt}
 use Rattle.std.proofs.lemmas.Bool.{cond-true, cond-false, lt-ltb, le-ltb}
 use Rattle.std.proofs.lemmas.Nat.{and_mask}
-use Rattle.codec_terms.specs.Mq.{coded_one, renormalised}
+use Rattle.codec_terms.specs.Mq.{coded_one}
 use Rattle.mq_coder.specs.Bytes.{registers_of}
 use Rattle.mq_coder.specs.Rows.{state_of}
 use Rattle.mq_coder.specs.Runs.{encoder_at}
@@ -25,7 +25,7 @@ renormalise-requires c =
 pub returns-clause-ok : goal.returns-clause-ok
 returns-clause-ok c =
     let chosen : c.if-part-lt32768.next ≡
-        cond (nat_lt c.part_of-part.result.a 0x8000) c.step_of-step.result.next (get_or c.args.states.now (c.args.decision / 2) 0) =
+    cond (nat_lt c.part_of-part.result.a 0x8000) c.step_of-step.result.next (get_or c.args.states.now (c.args.decision / 2) 0) =
     elim c.if-part-lt32768.branch [
       | then-part-lt32768 w ↦ w.next-is ∙ sym (cond-true _ _ _ (lt-ltb c.part_of-part.result.a 0x8000 w.if-part-lt32768.true))
       | else-part-lt32768 w ↦ w.next-is ∙ sym (cond-false _ _ _ (le-ltb c.part_of-part.result.a 0x8000 w.if-part-lt32768.false))
@@ -40,7 +40,7 @@ returns-clause-ok c =
 pub returns-clause-states : goal.returns-clause-states
 returns-clause-states c =
     let chosen : c.if-part-lt32768.next ≡
-        cond (nat_lt c.part_of-part.result.a 0x8000) c.step_of-step.result.next (get_or c.args.states.now (c.args.decision / 2) 0) =
+    cond (nat_lt c.part_of-part.result.a 0x8000) c.step_of-step.result.next (get_or c.args.states.now (c.args.decision / 2) 0) =
     elim c.if-part-lt32768.branch [
       | then-part-lt32768 w ↦ w.next-is ∙ sym (cond-true _ _ _ (lt-ltb c.part_of-part.result.a 0x8000 w.if-part-lt32768.true))
       | else-part-lt32768 w ↦ w.next-is ∙ sym (cond-false _ _ _ (le-ltb c.part_of-part.result.a 0x8000 w.if-part-lt32768.false))
@@ -51,7 +51,7 @@ returns-clause-states c =
 pub returns-clause-ready : goal.returns-clause-ready
 returns-clause-ready c =
     let chosen : c.if-part-lt32768.next ≡
-        cond (nat_lt c.part_of-part.result.a 0x8000) c.step_of-step.result.next (get_or c.args.states.now (c.args.decision / 2) 0) =
+    cond (nat_lt c.part_of-part.result.a 0x8000) c.step_of-step.result.next (get_or c.args.states.now (c.args.decision / 2) 0) =
     elim c.if-part-lt32768.branch [
       | then-part-lt32768 w ↦ w.next-is ∙ sym (cond-true _ _ _ (lt-ltb c.part_of-part.result.a 0x8000 w.if-part-lt32768.true))
       | else-part-lt32768 w ↦ w.next-is ∙ sym (cond-false _ _ _ (le-ltb c.part_of-part.result.a 0x8000 w.if-part-lt32768.false))

@@ -1,4 +1,4 @@
-use Rattle.std.proofs.Common.{◌≡◌, ◌+◌, map, take, subst, sym, rules}
+use Rattle.std.proofs.Common.{map, take, subst, sym, rules}
 use Rattle.mq_coder.specs.Bytes.{IsGrown}
 use Rattle.mq_coder.specs.Decisions.{decision_of}
 use Rattle.mq_coder.specs.Runs.{encoder_at}

@@ -1,4 +1,4 @@
-use Rattle.std.proofs.Common.{ap, reverse, ◌∙◌}
+use Rattle.std.proofs.Common.{ap, reverse}
 use Rattle.mq_coder.proofs.Coding.{ready-new, first-below, start-is}
 use Rattle.mq_coder.proofs.coder.Coder.start_again.Goals as goal
 
