@@ -130,36 +130,6 @@ resumed ds bytes out en at new last t k is_out is_a is_c is_ct is_last tail is_n
     rw (is_a, low-half r bytes en h, is_c, h.c, is_ct, h.ct, is_out) refl in
     flushed-is (coded ds) at out new (coded ds).states last t same is_last tail is_new
 
--- ---- an ending of no decisions
-
-coded-none : coded [] ≡ start
-unfolding coded coded_from
-coded-none = refl
-
-start-bytes : start.registers.bytes ≡ []
-unfolding start
-start-bytes = refl
-
-none-kept : reverse (behind []) ≡ []
-unfolding behind
-none-kept = refl
-
-behind-none : length (behind []) ≡ 0
-unfolding behind
-behind-none = refl
-
-take-none : (n : ℕ) (xs : List ℕ) → n ≡ 0 → take n xs ≡ []
-take-none n xs p = ap (λ n. take n xs) p
-
-pub continues-start : (bytes : List ℕ) (en : Ending) → en ≡ ending_of start → Continues [] bytes en
-continues-start bytes en p =
-    let none : (coded []).registers.bytes ≡ [] = ap (λ e. e.registers.bytes) coded-none ∙ start-bytes in
-    let kept : en.kept ≡ 0 = ap (λ e. e.kept) p ∙ ap (λ l. length (behind l)) start-bytes ∙ behind-none in
-    record {
-      taken = p ∙ ap ending_of (sym coded-none);
-      begins = take-none en.kept bytes kept ∙ sym (ap (λ l. reverse (behind l)) none ∙ none-kept);
-    }
-
 -- ---- bytes that came out stay
 
 -- the bytes in front of the last one are in front of it later too
@@ -261,6 +231,11 @@ continues-later ds later rest =
           take-append-le (length (behind before)) (reverse after) rest within
           ∙ kept-front before after (whole-begins before after begins);
     }
+
+pub continues-now :
+    (ds : List Decision) (rest : List ℕ) → Continues ds (reverse (coded ds).registers.bytes ++ rest) (ending_of (coded ds))
+unfolding coded_from
+continues-now ds rest = continues-later ds [] rest
 
 -- ---- a run of decisions
 

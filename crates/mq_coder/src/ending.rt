@@ -85,8 +85,11 @@ pub fn flushed(alloc: Global, bytes: &[u8], ending: &Ending) -> Result<Bytes, No
     Ok(out.into_bytes())
 }
 
-/// An ending goes on over the bytes that its encoder has put out at any later time, whatever stands behind them.
+/// An ending goes on over the bytes that its encoder has put out, then or at any later time, whatever stands behind
+/// them.
 pub fn ending_laws()
-    ensures { (ds later : List Decision) (rest : List ℕ)
+    ensures now { (ds : List Decision) (rest : List ℕ)
+        → Continues ds (reverse (coded ds).registers.bytes ++ rest) (ending_of (coded ds)) }
+    ensures later { (ds later : List Decision) (rest : List ℕ)
         → Continues ds (reverse (coded_from (coded ds) later).registers.bytes ++ rest) (ending_of (coded ds)) }
 {}
