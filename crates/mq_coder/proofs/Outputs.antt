@@ -32,15 +32,6 @@ length-push : (F : List ℕ) (y : ℕ) → length (F ++ y ∷ []) ≡ suc (lengt
 length-push [] y = refl
 length-push (f ∷ F) y = ap suc (length-push F y)
 
-pub set-last : (xs : List ℕ) (x : ℕ) → 0 < length xs → reverse (set xs (length xs - 1) x) ≡ with_last x (reverse xs)
-set-last xs x p =
-    let s = snoc-of xs p in
-    let n : length xs - 1 ≡ length s.front = omega (arith, ap length s.shape, length-push s.front s.last) in
-    let changed : set xs (length xs - 1) x ≡ s.front ++ x ∷ [] =
-    ap (λ i. set xs i x) n ∙ ap (λ l. set l (length s.front) x) s.shape ∙ set-middle s.front [] s.last x in
-    ap reverse changed ∙ reverse-push s.front x
-    ∙ sym (ap (with_last x) (ap reverse s.shape ∙ reverse-push s.front s.last))
-
 append-two : (F : List ℕ) (y b : ℕ) → (F ++ y ∷ []) ++ b ∷ [] ≡ F ++ y ∷ b ∷ []
 append-two [] y b = refl
 append-two (f ∷ F) y b = ap (λ l. f ∷ l) (append-two F y b)
@@ -109,9 +100,6 @@ restored before after n x is_n is_x grown pos =
     whole ∙ take_more_set T (n - 1) x (omega (arith, long))
     ∙ ap (λ l. l ++ x ∷ []) front ∙ ap (λ y. take (length before - 1) before ++ y ∷ []) last
     ∙ sym (last-split before (omega (arith, is_n)))
-
-pub with_last-empty : (xs : List ℕ) (x : ℕ) → length xs < 1 → reverse xs ≡ with_last x (reverse xs)
-with_last-empty xs x p = rw (empty-is xs p) refl
 
 pub with_last-same : (bytes : List ℕ) (x : ℕ) → last_byte bytes ≡ x → with_last x bytes ≡ bytes
 unfolding last_byte

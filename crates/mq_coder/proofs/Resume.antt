@@ -3,16 +3,13 @@ use Rattle.std.proofs.Common.{subst, ◌≡◌, ℕ, ◌+◌, ◌-◌, ◌*◌, 
 use Rattle.std.specs.Prelude.{bit_and}
 use Rattle.std.proofs.lemmas.List.{reverse-reverse, length-reverse, reverse-append, map_more, take-append-le}
 use Rattle.std.proofs.lemmas.Nat.{and_mask}
-use Rattle.codec_terms.specs.Mq.{Registers, Decision, last_byte, behind, coded, coded_from, start, codeword, without_last_ff, with_carry, doubled, renormalised, coded_one, state_at, is_mps, qe_of, Encoder}
+use Rattle.codec_terms.specs.Mq.{Registers, Decision, last_byte, behind, coded, coded_from, with_carry, doubled, renormalised, coded_one, state_at, is_mps, qe_of, Encoder}
 use Rattle.mq_coder.specs.Endings.{Continues, ending_of, interval_at}
 use Rattle.mq_coder.specs.Marks.{mark_of}
 use Rattle.mq_laws.specs.Ready.{Clean, Ready, Sound, Valid}
 use Rattle.mq_coder.specs.Bytes.{with_last, registers_of, IsGrown}
 use Rattle.mq_coder.specs.Runs.{encoder_at}
-use Rattle.mq_coder.specs.Tails.{IsTail}
 use Rattle.mq_coder.specs.declared.interval.Interval.{Interval}
-use Rattle.mq_coder.specs.declared.tail.Tail.{Tail}
-use Rattle.mq_coder.proofs.Endings.{flushed-is}
 use Rattle.mq_coder.specs.declared.ending.Ending.{Ending}
 use Rattle.mq_laws.proofs.Decisions.{renorm-zero, renorm-cases, valid-part, coded-registers, ready-coded_one, coded_from-cons, coded_from-nil}
 use Rattle.mq_laws.specs.Parts.{part_kept}
@@ -20,6 +17,7 @@ use Rattle.mq_laws.proofs.Lengths.{part-bytes, coded-ready, grows-coded_from}
 use Rattle.mq_laws.proofs.Sound.{Out}
 use Rattle.mq_laws.proofs.Steps.{regs, ct-form, doubled-quiet, doubled-out, valid-doubled}
 use Rattle.mq_coder.proofs.Outputs.{reverse-push, front-take}
+use Rattle.mq_coder.proofs.Endings.{length-with_last}
 
 pub behind-length : (l : List ℕ) → length (behind l) ≡ length l - 1
 unfolding behind
@@ -102,33 +100,6 @@ pub again :
     at ≡ interval_at en → registers_of at out ≡ r
 again r bytes out en at h is_out is_at =
     rw (is_at, low-half r bytes en h, h.c, h.ct, is_out) refl
-
--- ---- the end of the codeword, from the registers that an ending keeps
-
-pub within-of : (r : Registers) (bytes : List ℕ) (en : Ending) (ct : ℕ) → Holds r bytes en → ct ≡ en.ct →
-    (en.c + bit_and en.a 0xFFFF) * 2 ^ ct ≤ 0x9000000
-within-of r bytes en ct h p =
-    rw (low-half r bytes en h, p, h.ct, h.c) h.ready.valid.sound.within
-
-pub wide-of : (r : Registers) (bytes : List ℕ) (en : Ending) → Holds r bytes en → 0x8000 ≤ bit_and en.a 0xFFFF
-wide-of r bytes en h = rw (low-half r bytes en h) h.ready.high
-
-pub shifts-of : (r : Registers) (bytes : List ℕ) (en : Ending) (ct : ℕ) → Holds r bytes en → ct ≡ en.ct → ct ≤ 12
-shifts-of r bytes en ct h p = omega (arith, h.ct, h.ready.valid.shifts)
-
-pub resumed :
-    (ds : List Decision) (bytes out : List ℕ) (en : Ending) (at : Interval) (new : List ℕ) (last : ℕ) (t : Tail) →
-    Continues ds bytes en → reverse out ≡ (coded ds).registers.bytes →
-    at.a ≡ bit_and en.a 0xFFFF → at.c ≡ en.c → at.ct ≡ en.ct →
-    last ≡ last_byte (reverse out) → IsTail last at t →
-    reverse new ≡ without_last_ff (t.second ∷ t.first ∷ with_last t.last (reverse out)) → new ≡ codeword ds
-unfolding codeword
-resumed ds bytes out en at new last t k is_out is_a is_c is_ct is_last tail is_new =
-    let h = holds ds bytes en k in
-    let r = (coded ds).registers in
-    let same : record { registers = registers_of at out; states = (coded ds).states } ≡ coded ds =
-    rw (is_a, low-half r bytes en h, is_c, h.c, is_ct, h.ct, is_out) refl in
-    flushed-is (coded ds) at out new (coded ds).states last t same is_last tail is_new
 
 -- ---- bytes that came out stay
 
@@ -254,19 +225,38 @@ run-more e e1 e2 f xs i p so_far next =
     next ∙ ap (λ x. coded_one x (f (get_or xs i 0))) so_far
     ∙ sym (ap (coded_from e) (map_more f xs i 0 p) ∙ coded_from-push e (map f (take i xs)) (f (get_or xs i 0)))
 
+-- the same of the bytes in order
+grown-by : (before after : List ℕ) → length before ≤ length after → Begins (behind (reverse before)) (behind (reverse after)) →
+    IsGrown before after
+grown-by before after long begins =
+    let size : length (behind (reverse before)) ≡ length before - 1 = sym (front-length before) in
+    let front : reverse (behind (reverse before)) ≡ take (length before - 1) before =
+    ap reverse (sym (front-take before)) ∙ reverse-reverse (take (length before - 1) before) in
+    record {
+      more = long;
+      front =
+          ap (λ n. take n after) (sym size) ∙ ap (take (length (behind (reverse before)))) (sym (reverse-reverse after))
+          ∙ kept-front (reverse before) (reverse after) (whole-begins (reverse before) (reverse after) begins) ∙ front;
+    }
+
 pub run-grown : (at now : Interval) (before after states states' : List ℕ) (ds : List Decision) → Ready (registers_of at before) →
     encoder_at now after states' ≡ coded_from (encoder_at at before states) ds → IsGrown before after
 run-grown at now before after states states' ds ready same =
     let e = encoder_at at before states in
     let bytes : reverse after ≡ (coded_from e ds).registers.bytes = ap (λ x. x.registers.bytes) same in
-    let begins : Begins (behind (reverse before)) (behind (reverse after)) =
-    subst (λ l. Begins (behind (reverse before)) (behind l)) (sym bytes) (coded-begins e ds ready) in
-    let size : length (behind (reverse before)) ≡ length before - 1 = sym (front-length before) in
-    let front : reverse (behind (reverse before)) ≡ take (length before - 1) before =
-    ap reverse (sym (front-take before)) ∙ reverse-reverse (take (length before - 1) before) in
-    record {
-      more = omega (arith, grows-coded_from e ds ready, ap length bytes, length-reverse before, length-reverse after);
-      front =
-          ap (λ n. take n after) (sym size) ∙ ap (take (length (behind (reverse before)))) (sym (reverse-reverse after))
-          ∙ kept-front (reverse before) (reverse after) (whole-begins (reverse before) (reverse after) begins) ∙ front;
-    }
+    grown-by before after
+    (omega (arith, grows-coded_from e ds ready, ap length bytes, length-reverse before, length-reverse after))
+    (subst (λ l. Begins (behind (reverse before)) (behind l)) (sym bytes) (coded-begins e ds ready))
+
+put-begins : (bs : List ℕ) (x : ℕ) → Begins (behind bs) (with_last x bs)
+unfolding behind
+put-begins [] x = begins-self []
+put-begins (b ∷ bs) x = record { more = x ∷ []; same = refl }
+
+pub put-grown : (before after : List ℕ) (byte last : ℕ) → reverse after ≡ byte ∷ with_last last (reverse before) → IsGrown before after
+unfolding behind
+put-grown before after byte last is_put =
+    let size : length (with_last last (reverse before)) ≡ length (reverse before) = length-with_last last (reverse before) in
+    grown-by before after
+    (omega (arith, size, ap length is_put, length-reverse before, length-reverse after))
+    (subst (λ l. Begins (behind (reverse before)) l) (sym (ap behind is_put)) (put-begins (reverse before) last))

@@ -1,8 +1,8 @@
 use crate::ending::{Ending, begin, front_len, interval_of, last_mark};
-use crate::interval::{FIRST, Interval, last_of};
+use crate::interval::{FIRST, Interval, last_of, restore};
 use crate::output::Output;
 use crate::rows::START;
-use crate::run::{code_one, code_run, restore};
+use crate::run::{code_one, code_run};
 use crate::states::States;
 use crate::tail::{end_with, tail_of};
 use mast_base::{Bytes, NoMemory};

@@ -1,6 +1,6 @@
-ghost use Rattle.std.specs.Prelude.{◌≡◌, ◌+◌, ◌-◌, ◌*◌, ◌/◌, ◌%◌, ◌^◌, ◌<◌, ◌≤◌, ◌∷◌, IfOk, OnOk, OnErr, ℕ, List, reverse};
-ghost use Rattle.codec_terms.specs.Mq.{last_byte, behind, renormalised};
-ghost use Rattle.mq_coder.specs.Bytes.{with_last, registers_of, IsNext, doublings};
+ghost use Rattle.std.specs.Prelude.{◌≡◌, ◌+◌, ◌-◌, ◌*◌, ◌/◌, ◌%◌, ◌^◌, ◌<◌, ◌≤◌, ◌∷◌, IfOk, OnOk, OnErr, ℕ, List, length, reverse};
+ghost use Rattle.codec_terms.specs.Mq.{last_byte, renormalised};
+ghost use Rattle.mq_coder.specs.Bytes.{with_last, registers_of, IsGrown, IsNext, doublings};
 ghost use Rattle.mq_laws.specs.Parts.{part_kept};
 ghost use Rattle.mq_laws.specs.Ready.{Valid};
 
@@ -104,11 +104,12 @@ pub(crate) fn put(bytes: &mut Output, last: u8, byte: u8) -> Result<(), NoMemory
     Ok(())
 }
 
-// Takes the last byte away, and a carry from the one before it.
-fn take_back(bytes: &mut Output, last: u8)
-    ensures { reverse bytes.new ≡ with_last last (behind (reverse bytes.old)) }
+/// Takes away the bytes that came behind the first `len`, the last of which was `last`.
+pub(crate) fn restore(bytes: &mut Output, len: usize, last: u8)
+    requires { len ≤ length bytes.old }
+    ensures { (before : List ℕ) → length before ≡ len → last_byte (reverse before) ≡ last → IsGrown before bytes.old
+        → bytes.new ≡ before }
 {
-    let len = bytes.len().saturating_sub(1);
     bytes.truncate(len);
     if 0 < len {
         bytes.set(len - 1, last);
@@ -141,6 +142,7 @@ pub(crate) fn doubled(bytes: &mut Output, at: Interval, shift: u32) -> Result<In
     if shift < at.ct {
         return Ok(shifted(at, shift));
     }
+    let len = bytes.len();
     let last = last_of(bytes.as_slice());
     let next = next_byte(last, at.c << at.ct);
     put(bytes, next.last, next.byte)?;
@@ -156,7 +158,7 @@ pub(crate) fn doubled(bytes: &mut Output, at: Interval, shift: u32) -> Result<In
     match doubled(bytes, rest, left) {
         Ok(done) => Ok(done),
         Err(NoMemory) => {
-            take_back(bytes, last);
+            restore(bytes, len, last);
             Err(NoMemory)
         }
     }
@@ -182,9 +184,9 @@ pub(crate) fn renormalise(bytes: &mut Output, at: Interval) -> Result<Interval, 
     doubled(bytes, whole, shift)
 }
 
-/// The part of the interval that a decision keeps (CODEMPS and CODELPS, C.2.4): where Qe stands in order, the upper
-/// part for the more probable symbol, and the lower one where the two have changed places. By masks, since a branch
-/// would go either way about as often.
+/// The part of the interval that a decision keeps (CODEMPS and CODELPS, C.2.4): the upper one for the more probable
+/// symbol and the lower one for the other, except where the upper one is narrower than Qe and they change places. By
+/// masks, since a branch here goes either way about as often.
 pub(crate) fn part_of(at: Interval, qe: u32, is_mps: bool) -> Interval
     requires qe { qe ≤ 0x5601 }
     requires wide { 0x8000 ≤ at.a }
@@ -192,15 +194,15 @@ pub(crate) fn part_of(at: Interval, qe: u32, is_mps: bool) -> Interval
     requires code { at.c < 2 ^ 28 }
     ensures { (bytes : List ℕ) → registers_of result bytes ≡ part_kept is_mps qe (registers_of at bytes) }
 {
-    // Its sign is that of A - Qe against Qe.
-    let less = at.a.wrapping_sub(2 * qe);
-    let upper = if (less >> 31 == 1) != is_mps {
+    // Below zero where the upper part is the narrower one.
+    let wider_by = at.a.wrapping_sub(2 * qe);
+    let upper = if (wider_by >> 31 == 1) != is_mps {
         0xffff_ffff
     } else {
         0
     };
     Interval {
-        a: qe.wrapping_add(less & upper),
+        a: qe.wrapping_add(wider_by & upper),
         c: at.c + (qe & upper),
         ct: at.ct,
     }

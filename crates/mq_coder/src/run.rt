@@ -1,5 +1,5 @@
-ghost use Rattle.std.specs.Prelude.{◌≡◌, ◌<◌, ◌≤◌, ℕ, IfOk, OnErr, All, List, length, map, reverse};
-ghost use Rattle.codec_terms.specs.Mq.{last_byte, coded_one, coded_from};
+ghost use Rattle.std.specs.Prelude.{◌≡◌, ◌<◌, IfOk, OnErr, All, map};
+ghost use Rattle.codec_terms.specs.Mq.{coded_one, coded_from};
 ghost use Rattle.mq_coder.specs.Bytes.{registers_of, IsGrown};
 ghost use Rattle.mq_coder.specs.Decisions.{decision_of};
 ghost use Rattle.mq_coder.specs.Rows.{HasStates};
@@ -60,16 +60,4 @@ pub(crate) fn code_run(
         now = code_one(bytes, states, now, *decision)?;
     }
     Ok(now)
-}
-
-/// Takes away the bytes that came behind the first `len`, the last of which was `last`.
-pub(crate) fn restore(bytes: &mut Output, len: usize, last: u8)
-    requires { len ≤ length bytes.old }
-    ensures { (before : List ℕ) → length before ≡ len → last_byte (reverse before) ≡ last → IsGrown before bytes.old
-        → bytes.new ≡ before }
-{
-    bytes.truncate(len);
-    if 0 < len {
-        bytes.set(len - 1, last);
-    }
 }

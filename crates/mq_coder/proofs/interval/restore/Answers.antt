@@ -1,7 +1,7 @@
 use Rattle.std.proofs.Common.{◌-◌, length, set, ap, ◌∙◌, arith}
 use Rattle.std.proofs.lemmas.List.{length-take-le}
 use Rattle.mq_coder.proofs.Outputs.{restored}
-use Rattle.mq_coder.proofs.run.restore.Goals as goal
+use Rattle.mq_coder.proofs.interval.restore.Goals as goal
 
 pub set-requires : goal.set-requires
 set-requires c =
