@@ -8,6 +8,9 @@
 
 uint32_t rattle_encode(const uint8_t *decisions, size_t n, uint8_t *out, size_t room);
 uint32_t rattle_decode(const uint8_t *bytes, size_t len, const uint8_t *decisions, size_t n);
+void rattle_lists(const uint8_t *lists, size_t n, uint8_t *out, size_t room, uint32_t *lengths, size_t blocks);
+uint32_t clang_list(const uint8_t *decisions, size_t n, uint8_t *out, size_t room);
+uint32_t gcc_list(const uint8_t *decisions, size_t n, uint8_t *out, size_t room);
 
 struct row { uint32_t qe; uint8_t mps, after_mps, after_lps; };
 static struct row rows[94];
@@ -68,6 +71,16 @@ static void make_rows(void) {
         rows[i].mps = m;
         rows[i].after_mps = 2 * table[k].nmps + m;
         rows[i].after_lps = 2 * table[k].nlps + (m ^ table[k].change);
+    }
+}
+
+uint32_t steps[256];
+
+static void make_steps(void) {
+    for (int i = 0; i < 188; i++) {
+        const struct row *r = &rows[i >> 1];
+        int likely = (i & 1) == r->mps;
+        steps[i] = r->qe | (uint32_t)(likely ? r->after_mps : r->after_lps) << 16 | (uint32_t)likely << 31;
     }
 }
 
@@ -225,7 +238,8 @@ static uint32_t c_decode(const uint8_t *bytes, size_t len, const uint8_t *decisi
 
 enum { BLOCK = 4000, BLOCKS = 12500, ROOM = 4096 };
 static uint8_t decisions[(size_t)BLOCK * BLOCKS], coded[(size_t)ROOM * BLOCKS], other[(size_t)ROOM * BLOCKS];
-static uint32_t lengths[BLOCKS];
+static uint32_t lengths[BLOCKS], list_lengths[3][BLOCKS];
+static uint8_t lists[(size_t)BLOCK * BLOCKS], list_bytes[3][(size_t)ROOM * BLOCKS];
 
 static uint64_t seed = 88172645463325252ull;
 static uint32_t random32(void) {
@@ -250,6 +264,7 @@ static void make_decisions(void) {
         uint32_t unlikely = k == 17 ? 12 : k == 18 ? 128 : k == 0 ? 32 : 64 + 4 * (k & 7);
         uint32_t bit = likely ^ (random32() % 256 < unlikely);
         decisions[i] = k | bit << 7;
+        lists[i] = 2 * k + bit;
     }
 }
 
@@ -259,38 +274,75 @@ static double now(void) {
     return t.tv_sec + t.tv_nsec / 1e9;
 }
 
-int main(int argc, char **argv) {
-    int rounds = argc > 1 ? atoi(argv[1]) : 5;
-    make_rows();
-    make_decisions();
-    double best[4] = {1e9, 1e9, 1e9, 1e9};
-    uint64_t total = 0;
-    for (int round = 0; round < rounds; round++) {
-        double t0 = now();
-        for (int b = 0; b < BLOCKS; b++) lengths[b] = c_encode(decisions + (size_t)b * BLOCK, BLOCK, coded + (size_t)b * ROOM, ROOM);
-        double t1 = now();
-        total = 0;
-        for (int b = 0; b < BLOCKS; b++) {
-            uint32_t len = rattle_encode(decisions + (size_t)b * BLOCK, BLOCK, other + (size_t)b * ROOM, ROOM);
-            if (len != lengths[b]) { printf("lengths differ at block %d: %u %u\n", b, len, lengths[b]); return 1; }
-            total += len;
-        }
-        double t2 = now();
-        for (int b = 0; b < BLOCKS; b++)
-            if (memcmp(coded + (size_t)b * ROOM, other + (size_t)b * ROOM, lengths[b])) { printf("bytes differ at block %d\n", b); return 1; }
-        uint32_t wrong = 0;
-        double t3 = now();
-        for (int b = 0; b < BLOCKS; b++) wrong += c_decode(coded + (size_t)b * ROOM, lengths[b], decisions + (size_t)b * BLOCK, BLOCK);
-        double t4 = now();
-        for (int b = 0; b < BLOCKS; b++) wrong += rattle_decode(coded + (size_t)b * ROOM, lengths[b], decisions + (size_t)b * BLOCK, BLOCK);
-        double t5 = now();
-        if (wrong) { printf("%u wrong bits\n", wrong); return 1; }
-        double times[4] = {t1 - t0, t2 - t1, t4 - t3, t5 - t4};
-        for (int i = 0; i < 4; i++) if (times[i] < best[i]) best[i] = times[i];
+static double best[7] = {1e9, 1e9, 1e9, 1e9, 1e9, 1e9, 1e9};
+
+static void took(int which, double since) {
+    double time = now() - since;
+    if (time < best[which]) best[which] = time;
+}
+
+// The list calls by turns: C by clang, C by gcc, Rattle. Their bytes are those before a flush.
+static int code_lists(void) {
+    double t = now();
+    for (size_t b = 0; b < BLOCKS; b++) list_lengths[0][b] = clang_list(lists + b * BLOCK, BLOCK, list_bytes[0] + b * ROOM, ROOM);
+    took(4, t);
+    t = now();
+    for (size_t b = 0; b < BLOCKS; b++) list_lengths[1][b] = gcc_list(lists + b * BLOCK, BLOCK, list_bytes[1] + b * ROOM, ROOM);
+    took(5, t);
+    t = now();
+    rattle_lists(lists, sizeof lists, list_bytes[2], sizeof list_bytes[2], list_lengths[2], BLOCKS);
+    took(6, t);
+    for (size_t b = 0; b < BLOCKS; b++) {
+        uint32_t len = list_lengths[0][b];
+        if (len == 0 || len != list_lengths[1][b] || len != list_lengths[2][b]) return printf("lists' lengths differ at block %zu\n", b), 1;
+        if (len + 2 < lengths[b] || lengths[b] < len + 1) return printf("a flush adds one or two bytes: block %zu\n", b), 1;
+        if (memcmp(list_bytes[0] + b * ROOM + 1, list_bytes[1] + b * ROOM + 1, len)) return printf("C's lists differ at block %zu\n", b), 1;
+        if (memcmp(list_bytes[0] + b * ROOM + 1, list_bytes[2] + b * ROOM, len)) return printf("lists differ at block %zu\n", b), 1;
     }
-    size_t n = sizeof decisions;
-    printf("%zu decisions, %llu bytes, best of %d\n", n, (unsigned long long)total, rounds);
-    printf("encoder: C %.3f s, Rattle %.3f s, ratio %.2f\n", best[0], best[1], best[1] / best[0]);
-    printf("reader:  C %.3f s, Rattle %.3f s, ratio %.2f\n", best[2], best[3], best[3] / best[2]);
+    return 0;
+}
+
+static int code_one_by_one(uint64_t *total) {
+    double t = now();
+    for (size_t b = 0; b < BLOCKS; b++) lengths[b] = c_encode(decisions + b * BLOCK, BLOCK, coded + b * ROOM, ROOM);
+    took(0, t);
+    t = now();
+    *total = 0;
+    for (size_t b = 0; b < BLOCKS; b++) {
+        uint32_t len = rattle_encode(decisions + b * BLOCK, BLOCK, other + b * ROOM, ROOM);
+        if (len != lengths[b]) return printf("lengths differ at block %zu: %u %u\n", b, len, lengths[b]), 1;
+        *total += len;
+    }
+    took(1, t);
+    for (size_t b = 0; b < BLOCKS; b++)
+        if (memcmp(coded + b * ROOM, other + b * ROOM, lengths[b])) return printf("bytes differ at block %zu\n", b), 1;
+    return 0;
+}
+
+static int read_back(void) {
+    uint32_t wrong = 0;
+    double t = now();
+    for (size_t b = 0; b < BLOCKS; b++) wrong += c_decode(coded + b * ROOM, lengths[b], decisions + b * BLOCK, BLOCK);
+    took(2, t);
+    t = now();
+    for (size_t b = 0; b < BLOCKS; b++) wrong += rattle_decode(coded + b * ROOM, lengths[b], decisions + b * BLOCK, BLOCK);
+    took(3, t);
+    if (wrong) printf("%u wrong bits\n", wrong);
+    return wrong != 0;
+}
+
+int main(int argc, char **argv) {
+    int rounds = argc > 1 ? atoi(argv[1]) : 10;
+    make_rows();
+    make_steps();
+    make_decisions();
+    uint64_t total = 0;
+    for (int round = 0; round < rounds; round++)
+        if (code_one_by_one(&total) || read_back() || code_lists()) return 1;
+    double n = sizeof decisions / 1e9, list = best[4] < best[5] ? best[4] : best[5];
+    printf("%zu decisions, %llu bytes, best of %d; ns a decision\n", sizeof decisions, (unsigned long long)total, rounds);
+    printf("encoder: C %.2f, Rattle %.2f, ratio %.2f\n", best[0] / n, best[1] / n, best[1] / best[0]);
+    printf("reader:  C %.2f, Rattle %.2f, ratio %.2f\n", best[2] / n, best[3] / n, best[3] / best[2]);
+    printf("lists:   C by clang %.2f, C by gcc %.2f, Rattle %.2f, ratio to the better %.2f\n", best[4] / n, best[5] / n, best[6] / n, best[6] / list);
     return 0;
 }

@@ -12,6 +12,8 @@ mkdir -p "$work/crates/mq_bench/src" "$work/crates/mq_bench/specs"
 cp "$top/bench/mq/wrappers.txt" "$work/crates/mq_bench/src/lib.rt"
 echo "mq_bench staticlib: mast_base mq_coder" >> "$work/crates.txt"
 (cd "$work/crates/mq_bench" && rt lib)
-gcc -O2 -o "$work/main" "$top/bench/mq/main.c" "$work/crates/mq_bench/out/libmq_bench.a" \
-    "${KIT:-$kit}/c/liblibc_c.a" "${KIT:-$kit}/c/libos_c.a"
-"$work/main" "${1:-5}"
+clang -O3 -march=x86-64-v2 -DNAME=clang_list -c -o "$work/clang_list.o" "$top/bench/mq/list.c"
+gcc -O2 -DNAME=gcc_list -c -o "$work/gcc_list.o" "$top/bench/mq/list.c"
+gcc -O2 -o "$work/main" "$top/bench/mq/main.c" "$work/clang_list.o" "$work/gcc_list.o" \
+    "$work/crates/mq_bench/out/libmq_bench.a" "${KIT:-$kit}/c/liblibc_c.a" "${KIT:-$kit}/c/libos_c.a"
+"$work/main" "${1:-10}"

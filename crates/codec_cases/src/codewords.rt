@@ -1,7 +1,7 @@
 //! Codewords of the arithmetic coder, and what a reader gives of them.
 
 use mast_base::{Bytes, NoMemory};
-use mq_coder::{Coder, Ending, Reader, flushed};
+use mq_coder::{Coder, Ending, Reader, ending_laws, flushed};
 use std::alloc::Global;
 use std::process::Abort;
 use std::test::Fail;
@@ -123,6 +123,7 @@ fn ends_from_its_registers(rt: HostRuntime) -> Result<(), Fail> {
         kept: 0,
     };
     assert!(rt; ending == first);
+    ending_laws();
     let code = flushed(alloc, coder.bytes(), &ending)?;
     assert!(rt; code.as_slice() == [0xff, 0x7f].as_slice());
     Ok(())

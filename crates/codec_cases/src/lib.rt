@@ -3,3 +3,5 @@
 
 #[cfg(test)]
 mod codewords;
+#[cfg(test)]
+mod lists;

@@ -1,18 +1,18 @@
 -- One decision, as the coder does it: a part, and the doublings that it needs.
-use Rattle.std.proofs.Common.{◌≡◌, ℕ, zero, suc, ◌+◌, ◌-◌, ◌*◌, ◌^◌, ◌<◌, ◌≤◌, Bool, true, false, not, cond, ◌&&◌, List, [], ◌∷◌, map, set, get_or, refl, sym, ap, ap₂, subst, ◌∙◌, inl, inr, arith, pow-suc, pow-add, pow_pos, pow_mono, mul-le-mul_right, mul-lt-mul_of_pos_right, reverse, ◌%◌}
-use Rattle.std.specs.Prelude.{nat_lt, nat_le}
+use Rattle.std.proofs.Common.{◌≡◌, ℕ, zero, suc, ◌+◌, ◌-◌, ◌*◌, ◌^◌, ◌<◌, ◌≤◌, Bool, true, false, not, cond, ◌&&◌, List, [], ◌∷◌, map, set, get_or, refl, sym, ap, ap₂, subst, ◌∙◌, inl, inr, arith, pow-suc, pow-add, pow_pos, pow_mono, mul-le-mul_right, mul-lt-mul_of_pos_right, reverse, ◌/◌, ◌%◌}
+use Rattle.std.specs.Prelude.{◌==◌, nat_lt, nat_le, bit_and}
 use Rattle.std.specs.Bool.{beq}
 use lib.Count.{count_leading_zeros}
-use Rattle.std.proofs.lemmas.Bool.{cases_lt, cond-true, cond-false, ltb-true, le-ltb, le-leb, lt-leb, and_parts}
-use Rattle.std.proofs.lemmas.Nat.{leading_top}
+use Rattle.std.proofs.lemmas.Bool.{cases_lt, eq-eqb, ne_eqb, cond_both, cond-true, cond-false, ltb-true, lt-ltb, le-ltb, le-leb, lt-leb, and_parts}
+use Rattle.std.proofs.lemmas.Nat.{leading_top, and_mask, and_le_r}
 use Rattle.codec_terms.specs.Mq.{Registers, State, Encoder, qe_of, after_mps, after_lps, state_at, is_mps, lower_part, upper_part, renormalised, coded_one, start, start_states}
 use Rattle.mq_coder.specs.Bytes.{doublings, registers_of}
 use Rattle.mq_laws.specs.Parts.{lower_kept, part_kept}
 use Rattle.mq_laws.specs.Ready.{Clean, Carries, Valid, Ready}
-use Rattle.mq_coder.specs.Rows.{state_of, IsRow}
+use Rattle.mq_coder.specs.Rows.{state_of, HasStates, IsRow, IsStep}
 use Rattle.mq_coder.specs.declared.rows.Row.{Row}
-use Rattle.mq_laws.proofs.Decisions.{lower-width, upper-width, renorm-done, part-cases, valid-part, ready-part, coded-registers, coded-states, states_coded-is, qe-small}
-use Rattle.mq_coder.proofs.Table.{beq-true}
+use Rattle.mq_coder.specs.declared.rows.Step.{Step}
+use Rattle.mq_laws.proofs.Decisions.{lower-width, upper-width, renorm-done, part-cases, valid-part, coded-registers, coded-states, states_coded-is, qe-small}
 use Rattle.mq_coder.proofs.Doublings.{doublings-renormalise, quiet, regs-eq}
 use Rattle.mq_coder.specs.declared.interval.Interval.{Interval}
 
@@ -24,26 +24,63 @@ lower-by true false = refl
 lower-by false true = refl
 lower-by false false = refl
 
-pub part-lower :
+part-lower :
     (m : Bool) (qe a c ct : ℕ) (bytes : List ℕ) → beq (nat_lt (a - qe) qe) m ≡ true →
     record { a = qe; c = c; ct = ct; bytes = bytes } ≡ part_kept m qe (record { a = a; c = c; ct = ct; bytes = bytes })
 unfolding part_kept lower_kept lower_part
 part-lower m qe a c ct bytes h =
     sym (cond-true (cond m (nat_lt (a - qe) qe) (not (nat_lt (a - qe) qe))) _ _ (sym (lower-by m (nat_lt (a - qe) qe)) ∙ h))
 
-pub part-upper :
+part-upper :
     (m : Bool) (qe a c ct : ℕ) (bytes : List ℕ) → beq (nat_lt (a - qe) qe) m ≡ false →
     record { a = a - qe; c = c + qe; ct = ct; bytes = bytes } ≡ part_kept m qe (record { a = a; c = c; ct = ct; bytes = bytes })
 unfolding part_kept lower_kept upper_part
 part-upper m qe a c ct bytes h =
     sym (cond-false (cond m (nat_lt (a - qe) qe) (not (nat_lt (a - qe) qe))) _ _ (sym (lower-by m (nat_lt (a - qe) qe)) ∙ h))
 
-pub mps-test : (b : Bool) (s : State) (m : Bool) → m ≡ s.mps → beq b m ≡ is_mps b s
-unfolding is_mps
-mps-test true s true p = p
-mps-test true s false p = p
-mps-test false s true p = ap not p
-mps-test false s false p = ap not p
+-- ---- the part by masks
+
+false-by : (t : Bool) → not t ≡ true → t ≡ false
+false-by true h = cc
+false-by false h = refl
+
+true-by : (t : Bool) → not t ≡ false → t ≡ true
+true-by true h = refl
+true-by false h = cc
+
+-- the sign of A - 2 Qe
+sign-is : (qe a : ℕ) → qe ≤ 0x5601 → 0x8000 ≤ a → a < 2 ^ 16 → ((a + (2 ^ 32 - 2 * qe)) % 2 ^ 32 / 2 ^ 31 == 1) ≡ nat_lt (a - qe) qe
+sign-is qe a small wide narrow = elim (cases_lt (a - qe) qe) [
+  | inl p ↦ eq-eqb ((a + (2 ^ 32 - 2 * qe)) % 2 ^ 32 / 2 ^ 31) 1 (omega arith) ∙ sym (lt-ltb (a - qe) qe p)
+  | inr p ↦ ne_eqb ((a + (2 ^ 32 - 2 * qe)) % 2 ^ 32 / 2 ^ 31) 1 (λ (e : (a + (2 ^ 32 - 2 * qe)) % 2 ^ 32 / 2 ^ 31 ≡ 1). absurd (omega (arith, e)))
+      ∙ sym (le-ltb (a - qe) qe p)
+]
+
+pub masked-upper :
+    (m : Bool) (qe a c ct u : ℕ) (bytes : List ℕ) → qe ≤ 0x5601 → 0x8000 ≤ a → a < 2 ^ 16 → u ≡ 0xFFFFFFFF →
+    not (beq ((a + (2 ^ 32 - 2 * qe)) % 2 ^ 32 / 2 ^ 31 == 1) m) ≡ true →
+    record { a = (qe + bit_and ((a + (2 ^ 32 - 2 * qe)) % 2 ^ 32) u) % 2 ^ 32; c = c + bit_and qe u; ct = ct; bytes = bytes }
+    ≡ part_kept m qe (record { a = a; c = c; ct = ct; bytes = bytes })
+masked-upper m qe a c ct u bytes small wide narrow is_u h =
+    let less = (a + (2 ^ 32 - 2 * qe)) % 2 ^ 32 in
+    let width : (qe + bit_and less u) % 2 ^ 32 ≡ a - qe =
+    ap (λ u. (qe + bit_and less u) % 2 ^ 32) is_u ∙ omega (arith, and_mask less 32) in
+    let code : c + bit_and qe u ≡ c + qe = ap (λ u. c + bit_and qe u) is_u ∙ omega (arith, and_mask qe 32) in
+    regs-eq ((qe + bit_and less u) % 2 ^ 32) (a - qe) (c + bit_and qe u) (c + qe) ct ct bytes width code refl
+    ∙ part-upper m qe a c ct bytes (ap (λ t. beq t m) (sym (sign-is qe a small wide narrow)) ∙ false-by (beq (less / 2 ^ 31 == 1) m) h)
+
+pub masked-lower :
+    (m : Bool) (qe a c ct u : ℕ) (bytes : List ℕ) → qe ≤ 0x5601 → 0x8000 ≤ a → a < 2 ^ 16 → u ≡ 0 →
+    not (beq ((a + (2 ^ 32 - 2 * qe)) % 2 ^ 32 / 2 ^ 31 == 1) m) ≡ false →
+    record { a = (qe + bit_and ((a + (2 ^ 32 - 2 * qe)) % 2 ^ 32) u) % 2 ^ 32; c = c + bit_and qe u; ct = ct; bytes = bytes }
+    ≡ part_kept m qe (record { a = a; c = c; ct = ct; bytes = bytes })
+masked-lower m qe a c ct u bytes small wide narrow is_u h =
+    let less = (a + (2 ^ 32 - 2 * qe)) % 2 ^ 32 in
+    let width : (qe + bit_and less u) % 2 ^ 32 ≡ qe =
+    ap (λ u. (qe + bit_and less u) % 2 ^ 32) is_u ∙ omega (arith, and_le_r less 0) in
+    let code : c + bit_and qe u ≡ c = ap (λ u. c + bit_and qe u) is_u ∙ omega (arith, and_le_r qe 0) in
+    regs-eq ((qe + bit_and less u) % 2 ^ 32) qe (c + bit_and qe u) c ct ct bytes width code refl
+    ∙ part-lower m qe a c ct bytes (ap (λ t. beq t m) (sym (sign-is qe a small wide narrow)) ∙ true-by (beq (less / 2 ^ 31 == 1) m) h)
 
 -- ---- the count of doublings
 
@@ -53,13 +90,13 @@ pub record Count (a z : ℕ) : Type 0 where
   pub high : 0x8000 ≤ a * 2 ^ (z - 16)
   pub narrow : a * 2 ^ (z - 16) < 2 ^ 16
 
-pub count-of : (a : ℕ) → 0 < a → a < 0x8000 → Count a (count_leading_zeros 32 a)
-count-of a pos low =
+pub count-narrow : (a : ℕ) → 0 < a → a < 2 ^ 16 → Count a (count_leading_zeros 32 a)
+count-narrow a pos thin =
     let t = leading_top 32 a pos (omega arith) in
     let j = t.0 in
-    let small : j < 15 = elim (cases_lt j 15) [
+    let small : j < 16 = elim (cases_lt j 16) [
       | inl p ↦ p
-      | inr p ↦ absurd (omega (arith, t.2, low, pow_mono p))
+      | inr p ↦ absurd (omega (arith, t.2, thin, pow_mono p))
     ] in
     let z : count_leading_zeros 32 a - 16 ≡ 15 - j = omega (arith, t.1) in
     let whole : j + (15 - j) ≡ 15 = omega arith in
@@ -72,24 +109,24 @@ count-of a pos low =
       narrow = rw z (omega (arith, mul-lt-mul_of_pos_right t.3 (pow_pos (15 - j)), ap (λ x. x * 2 ^ (15 - j)) twice, sum));
     }
 
-pub renormalise-is :
-    (r : Registers) → Valid r → r.a < 0x8000 →
-    renormalised 15 r ≡ doublings (count_leading_zeros 32 r.a - 16) r
-renormalise-is r v low =
-    let n = count-of r.a v.sound.positive low in
+pub count-of : (a : ℕ) → 0 < a → a < 0x8000 → Count a (count_leading_zeros 32 a)
+count-of a pos low = count-narrow a pos (omega arith)
+
+pub renormalise-is : (r : Registers) → Valid r → renormalised 15 r ≡ doublings (count_leading_zeros 32 r.a - 16) r
+renormalise-is r v =
+    let n = count-narrow r.a v.sound.positive v.narrow in
     doublings-renormalise (count_leading_zeros 32 r.a - 16) 15 r v n.few n.high n.narrow
 
 pub shifted-is :
-    (at next : Interval) (bytes : List ℕ) → Valid (registers_of at bytes) → at.a < 0x8000 →
-    count_leading_zeros 32 at.a - 16 < at.ct →
+    (at next : Interval) (bytes : List ℕ) → Valid (registers_of at bytes) → count_leading_zeros 32 at.a - 16 < at.ct →
     next.a ≡ at.a * 2 ^ (count_leading_zeros 32 at.a - 16) % 2 ^ 32 →
     next.c ≡ at.c * 2 ^ (count_leading_zeros 32 at.a - 16) % 2 ^ 32 →
     next.ct ≡ at.ct - (count_leading_zeros 32 at.a - 16) →
     renormalised 15 (registers_of at bytes) ≡ registers_of next bytes
-shifted-is at next bytes v low few a c ct =
+shifted-is at next bytes v few a c ct =
     let s = count_leading_zeros 32 at.a - 16 in
-    let n = count-of at.a v.sound.positive low in
-    renormalise-is (registers_of at bytes) v low
+    let n = count-narrow at.a v.sound.positive v.narrow in
+    renormalise-is (registers_of at bytes) v
     ∙ quiet at.a at.c at.ct s (reverse bytes) v n.narrow few
     ∙ sym (regs-eq next.a (at.a * 2 ^ s % 2 ^ 32) next.c (at.c * 2 ^ s % 2 ^ 32) next.ct (at.ct - s) (reverse bytes) a c ct)
 
@@ -212,53 +249,63 @@ one-moved e k b ready h =
 -- ---- the same, over what the coder keeps
 
 pub part-known :
-    (xs : List ℕ) (k : ℕ) (b : Bool) (row : Row) (r p : Registers) → IsRow (get_or xs k 0) row →
-    p ≡ part_kept (beq b row.mps) row.qe r →
-    p ≡ part_kept (is_mps b (state_at (map state_of xs) k)) (qe_of (state_at (map state_of xs) k)) r
-part-known xs k b row r p h e =
-    let s = state_of (get_or xs k 0) in
-    e ∙ ap₂ (λ m q. part_kept m q r) (mps-test b s row.mps h.mps) h.qe
-    ∙ ap (λ s. part_kept (is_mps b s) (qe_of s) r) (sym (state_at-map xs k))
+    (xs : List ℕ) (k b : ℕ) (t : Step) (r p : Registers) → IsStep (get_or xs k 0) b t →
+    p ≡ part_kept t.is_mps t.qe r →
+    p ≡ part_kept (is_mps (b == 1) (state_at (map state_of xs) k)) (qe_of (state_at (map state_of xs) k)) r
+part-known xs k b t r p h e =
+    e ∙ ap₂ (λ m q. part_kept m q r) h.is_mps_is h.qe
+    ∙ ap (λ s. part_kept (is_mps (b == 1) s) (qe_of s) r) (sym (state_at-map xs k))
 
-pub code-valid :
-    (xs : List ℕ) (k : ℕ) (b : Bool) (row : Row) (r p : Registers) → Ready r → IsRow (get_or xs k 0) row →
-    p ≡ part_kept (beq b row.mps) row.qe r → Valid p
-code-valid xs k b row r p ready h e =
+pub step-valid :
+    (xs : List ℕ) (k b : ℕ) (t : Step) (r p : Registers) → Ready r → IsStep (get_or xs k 0) b t →
+    p ≡ part_kept t.is_mps t.qe r → Valid p
+step-valid xs k b t r p ready h e =
     let s = state_at (map state_of xs) k in
-    subst Valid (sym (part-known xs k b row r p h e)) (valid-part (is_mps b s) s r ready)
+    subst Valid (sym (part-known xs k b t r p h e)) (valid-part (is_mps (b == 1) s) s r ready)
 
-pub quiet-code :
-    (xs : List ℕ) (k : ℕ) (b : Bool) (row : Row) (r p : Registers) → Ready r → IsRow (get_or xs k 0) row →
-    p ≡ part_kept (beq b row.mps) row.qe r → 0x8000 ≤ p.a →
-    enc p (map state_of xs) ≡ coded_one (enc r (map state_of xs)) (record { context = k; bit = b })
-quiet-code xs k b row r p ready h e wide =
-    let same = part-known xs k b row r p h e in
-    ap (λ q. enc q (map state_of xs)) same
-    ∙ sym (one-quiet (enc r (map state_of xs)) k b ready (subst (λ q. 0x8000 ≤ q.a) same wide))
+set-same : (xs : List ℕ) (k : ℕ) → set xs k (get_or xs k 0) ≡ xs
+set-same [] k = refl
+set-same (x ∷ xs) zero = refl
+set-same (x ∷ xs) (suc k) = ap (λ l. x ∷ l) (set-same xs k)
 
-pub moved-ready :
-    (xs : List ℕ) (k : ℕ) (b : Bool) (row : Row) (r p p' : Registers) → Ready r → IsRow (get_or xs k 0) row →
-    p ≡ part_kept (beq b row.mps) row.qe r → renormalised 15 p ≡ p' → Ready p'
-moved-ready xs k b row r p p' ready h e moved =
-    let s = state_at (map state_of xs) k in
-    let same = part-known xs k b row r p h e in
-    subst Ready (sym (ap (renormalised 15) same) ∙ moved) (ready-part (is_mps b s) s r ready)
+step-quiet :
+    (xs : List ℕ) (k b v : ℕ) (t : Step) (r p p' : Registers) → Ready r → IsStep (get_or xs k 0) b t →
+    p ≡ part_kept t.is_mps t.qe r → renormalised 15 p ≡ p' → 0x8000 ≤ p.a → v ≡ get_or xs k 0 →
+    enc p' (map state_of (set xs k v)) ≡ coded_one (enc r (map state_of xs)) (record { context = k; bit = b == 1 })
+step-quiet xs k b v t r p p' ready h e moved wide stays =
+    let same = part-known xs k b t r p h e in
+    ap₂ enc (sym moved ∙ renorm-done 15 p wide ∙ same) (ap (λ v. map state_of (set xs k v)) stays ∙ ap (map state_of) (set-same xs k))
+    ∙ sym (one-quiet (enc r (map state_of xs)) k (b == 1) ready (subst (λ q. 0x8000 ≤ q.a) same wide))
 
-pub moved-code :
-    (xs : List ℕ) (k v : ℕ) (b : Bool) (row : Row) (r p p' : Registers) → Ready r → IsRow (get_or xs k 0) row →
-    p ≡ part_kept (beq b row.mps) row.qe r → p.a < 0x8000 → renormalised 15 p ≡ p' →
-    v ≡ cond (beq b row.mps) row.after_mps row.after_lps →
-    enc p' (map state_of (set xs k v)) ≡ coded_one (enc r (map state_of xs)) (record { context = k; bit = b })
-moved-code xs k v b row r p p' ready h e low moved chosen =
-    let n = get_or xs k 0 in
-    let s = state_of n in
-    let same = part-known xs k b row r p h e in
-    let next : state_of v ≡ cond (is_mps b s) (after_mps s) (after_lps s) =
-    next-state (beq b row.mps) n v row h chosen ∙ ap (λ m. cond m (after_mps s) (after_lps s)) (mps-test b s row.mps h.mps) in
-    let states : map state_of (set xs k v) ≡ set (map state_of xs) k (cond (is_mps b (state_at (map state_of xs) k)) (after_mps (state_at (map state_of xs) k)) (after_lps (state_at (map state_of xs) k))) =
-    map-set xs k v ∙ ap (set (map state_of xs) k) (next ∙ ap (λ s. cond (is_mps b s) (after_mps s) (after_lps s)) (sym (state_at-map xs k))) in
-    ap₂ enc (sym moved ∙ ap (renormalised 15) same) states
-    ∙ sym (one-moved (enc r (map state_of xs)) k b ready (subst (λ q. q.a < 0x8000) same low))
+step-moved :
+    (xs : List ℕ) (k b v : ℕ) (t : Step) (r p p' : Registers) → Ready r → IsStep (get_or xs k 0) b t →
+    p ≡ part_kept t.is_mps t.qe r → renormalised 15 p ≡ p' → p.a < 0x8000 → v ≡ t.next →
+    enc p' (map state_of (set xs k v)) ≡ coded_one (enc r (map state_of xs)) (record { context = k; bit = b == 1 })
+step-moved xs k b v t r p p' ready h e moved low changes =
+    let same = part-known xs k b t r p h e in
+    let after : State → State = λ s. cond (is_mps (b == 1) s) (after_mps s) (after_lps s) in
+    let next : state_of v ≡ after (state_at (map state_of xs) k) =
+    ap state_of changes ∙ h.next_is ∙ ap after (sym (state_at-map xs k)) in
+    ap₂ enc (sym moved ∙ ap (renormalised 15) same) (map-set xs k v ∙ ap (set (map state_of xs) k) next)
+    ∙ sym (one-moved (enc r (map state_of xs)) k (b == 1) ready (subst (λ q. q.a < 0x8000) same low))
+
+pub step-code :
+    (xs : List ℕ) (k b v : ℕ) (t : Step) (r p p' : Registers) → Ready r → IsStep (get_or xs k 0) b t →
+    p ≡ part_kept t.is_mps t.qe r → renormalised 15 p ≡ p' → v ≡ cond (nat_lt p.a 0x8000) t.next (get_or xs k 0) →
+    enc p' (map state_of (set xs k v)) ≡ coded_one (enc r (map state_of xs)) (record { context = k; bit = b == 1 })
+step-code xs k b v t r p p' ready h e moved chosen =
+    elim (cases_lt p.a 0x8000) [
+      | inl q ↦ step-moved xs k b v t r p p' ready h e moved q (chosen ∙ cond-true _ _ _ (lt-ltb p.a 0x8000 q))
+      | inr q ↦ step-quiet xs k b v t r p p' ready h e moved q (chosen ∙ cond-false _ _ _ (le-ltb p.a 0x8000 q))
+    ]
+
+pub step-states :
+    (xs : List ℕ) (k b v : ℕ) (t : Step) (a : ℕ) → HasStates xs → k < 19 → IsStep (get_or xs k 0) b t →
+    v ≡ cond (nat_lt a 0x8000) t.next (get_or xs k 0) → HasStates (set xs k v)
+step-states xs k b v t a states within h chosen =
+    let below : v < 94 = subst (λ v. v < 94) (sym chosen)
+    (cond_both (nat_lt a 0x8000) t.next (get_or xs k 0) (λ v. v < 94) (λ _. h.next_state) (λ _. states k within)) in
+    states-set xs k v below states
 
 -- ---- the start
 

@@ -1,16 +1,13 @@
 -- Doublings by a count: those before the next byte at once, and then the byte.
-use Rattle.std.proofs.Common.{◌≡◌, ℕ, zero, suc, ◌+◌, ◌-◌, ◌*◌, ◌%◌, ◌^◌, ◌<◌, ◌≤◌, List, [], ◌∷◌, reverse, refl, sym, ap, subst, ◌∙◌, arith, pow-suc, pow-add, pow_pos, pow_mono, mul-le-mul_left, mul-le-mul_right, mod-eq_of_lt}
-use Rattle.std.proofs.lemmas.List.{reverse-reverse}
-use Rattle.codec_terms.specs.Mq.{Registers, last_byte, behind, byte_out, out_at_zero, doubled, renormalised}
+use Rattle.std.proofs.Common.{◌≡◌, ℕ, zero, suc, ◌+◌, ◌-◌, ◌*◌, ◌%◌, ◌^◌, ◌<◌, ◌≤◌, List, ◌∷◌, reverse, refl, sym, ap, subst, ◌∙◌, arith, pow-suc, pow-add, pow_pos, pow_mono, mul-le-mul_left, mul-le-mul_right, mod-eq_of_lt}
+use Rattle.codec_terms.specs.Mq.{Registers, last_byte, byte_out, out_at_zero, doubled, renormalised}
 use Rattle.mq_coder.specs.Bytes.{with_last, IsNext, doublings}
 use Rattle.mq_laws.specs.Ready.{Valid}
 use Rattle.mq_coder.specs.declared.interval.NextByte.{NextByte}
-use Rattle.mq_laws.proofs.Numbers.{behind-cons}
 use Rattle.mq_laws.proofs.Sound.{out-byte}
 use Rattle.mq_laws.proofs.Flush.{sound-shift}
 use Rattle.mq_laws.proofs.Steps.{regs, doubled-quiet, valid-doubled, doubled-width, out-valid}
 use Rattle.mq_laws.proofs.Decisions.{renorm-done, renorm-more}
-use Rattle.mq_coder.proofs.Outputs.{with_last-same}
 
 pub regs-eq :
     (a a' c c' ct ct' : ℕ) (bytes : List ℕ) → a ≡ a' → c ≡ c' → ct ≡ ct' → regs a c ct bytes ≡ regs a' c' ct' bytes
@@ -124,24 +121,6 @@ pub put-registers :
     byte_out (regs a c 0 (reverse old)) ≡ regs a next.c next.ct (reverse new)
 put-registers last a c next old new is_last is_next is_put =
     is_next.out a 0 (reverse old) (sym is_last) ∙ ap (λ l. regs a next.c next.ct l) (sym is_put)
-
-with_last-twice : (bytes : List ℕ) (x y : ℕ) → with_last x (with_last y bytes) ≡ with_last x bytes
-with_last-twice [] x y = refl
-with_last-twice (b ∷ bs) x y = refl
-
-reverse-same : (xs ys : List ℕ) → reverse xs ≡ reverse ys → xs ≡ ys
-reverse-same xs ys p = sym (reverse-reverse xs) ∙ ap reverse p ∙ reverse-reverse ys
-
--- a byte that was put and taken back
-pub taken-back :
-    (last byte x : ℕ) (old put back : List ℕ) →
-    last ≡ last_byte (reverse old) →
-    reverse put ≡ byte ∷ with_last x (reverse old) →
-    reverse back ≡ with_last last (behind (reverse put)) → back ≡ old
-taken-back last byte x old put back is_last is_put is_back =
-    reverse-same back old
-    (is_back ∙ ap (λ l. with_last last (behind l)) is_put ∙ ap (with_last last) (behind-cons byte (with_last x (reverse old)))
-    ∙ with_last-twice (reverse old) last x ∙ with_last-same (reverse old) last (sym is_last))
 
 -- as many doublings as bring A to 8000
 pub doublings-renormalise :

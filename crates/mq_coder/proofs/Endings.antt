@@ -120,7 +120,7 @@ pub codeword-read :
 codeword-read e bytes ds is_bytes p =
     ap (λ b. decoded b (contexts_of ds)) (is_bytes ∙ codeword-is e ds p) ∙ read-back ds
 
-length-with_last : (x : ℕ) (bytes : List ℕ) → length (with_last x bytes) ≡ length bytes
+pub length-with_last : (x : ℕ) (bytes : List ℕ) → length (with_last x bytes) ≡ length bytes
 length-with_last x [] = refl
 length-with_last x (b ∷ bs) = refl
 

@@ -2,7 +2,7 @@
 use Rattle.std.proofs.Common.{◌≡◌, ℕ, zero, suc, ◌+◌, ◌-◌, ◌*◌, ◌%◌, ◌^◌, ◌<◌, ◌≤◌, ◌≢◌, Bool, true, false, cond, List, [], ◌∷◌, take, drop, get_or, length, refl, sym, ap, subst, ◌∙◌, arith, pow-suc, pow-add, pow_pos, mul-le-mul_left}
 use Rattle.std.specs.Prelude.{◌==◌, nat_lt}
 use lib.Count.{count_leading_zeros}
-use Rattle.std.proofs.lemmas.Bool.{cond-true, cond-false, eq-eqb, ne_eqb, lt-ltb, le-ltb, ltb-true, ltb-false}
+use Rattle.std.proofs.lemmas.Bool.{cond-true, cond-false, eq-eqb, ne_eqb, lt-ltb, le-ltb}
 use Rattle.std.proofs.lemmas.Nat.{mul-mod_first}
 use Rattle.codec_terms.specs.Mq.{Reading, next_byte, behind, add_bits, byte_in, marker_in, stuffed_byte_in, whole_byte_in, in_at_zero, read_on, renormalised_reading}
 use Rattle.mq_laws.proofs.ReadBack.{reading-cases, reading-zero}

@@ -1,10 +1,10 @@
 -- Lists of bytes with a last byte that changes, and what a byte that comes out is.
-use Rattle.std.proofs.Common.{◌≡◌, ℕ, suc, ◌+◌, ◌-◌, ◌/◌, ◌%◌, ◌<◌, ◌≤◌, ◌≢◌, List, [], ◌∷◌, ◌++◌, reverse, length, set, get_or, Option, Some, None, IfSome, IfNone, refl, sym, ap, ◌∙◌, arith}
+use Rattle.std.proofs.Common.{◌≡◌, ℕ, suc, ◌+◌, ◌-◌, ◌/◌, ◌%◌, ◌<◌, ◌≤◌, ◌≢◌, List, [], ◌∷◌, ◌++◌, reverse, length, set, take, get_or, refl, sym, ap, ◌∙◌, arith}
 use Rattle.std.specs.Prelude.{◌==◌, nat_lt}
-use Rattle.std.proofs.lemmas.List.{reverse-append, get_or-reverse}
+use Rattle.std.proofs.lemmas.List.{reverse-append, get_or-reverse, take_all, take_more, take_more_set, take-take, length-take-le, length-set}
 use Rattle.std.proofs.lemmas.Bool.{cond-true, cond-false, eq-eqb, ne_eqb, lt-ltb, le-ltb}
 use Rattle.codec_terms.specs.Mq.{last_byte, behind, with_carry, byte_out, carried_byte_out, whole_byte_out, stuffed_byte_out}
-use Rattle.mq_coder.specs.Bytes.{with_last, IsNext}
+use Rattle.mq_coder.specs.Bytes.{with_last, IsGrown, IsNext}
 use Rattle.mq_coder.specs.declared.interval.NextByte.{NextByte}
 
 -- ---- lists
@@ -31,15 +31,6 @@ set-middle (f ∷ F) rest y x = ap (λ l. f ∷ l) (set-middle F rest y x)
 length-push : (F : List ℕ) (y : ℕ) → length (F ++ y ∷ []) ≡ suc (length F)
 length-push [] y = refl
 length-push (f ∷ F) y = ap suc (length-push F y)
-
-pub set-last : (xs : List ℕ) (x : ℕ) → 0 < length xs → reverse (set xs (length xs - 1) x) ≡ with_last x (reverse xs)
-set-last xs x p =
-    let s = snoc-of xs p in
-    let n : length xs - 1 ≡ length s.front = omega (arith, ap length s.shape, length-push s.front s.last) in
-    let changed : set xs (length xs - 1) x ≡ s.front ++ x ∷ [] =
-    ap (λ i. set xs i x) n ∙ ap (λ l. set l (length s.front) x) s.shape ∙ set-middle s.front [] s.last x in
-    ap reverse changed ∙ reverse-push s.front x
-    ∙ sym (ap (with_last x) (ap reverse s.shape ∙ reverse-push s.front s.last))
 
 append-two : (F : List ℕ) (y b : ℕ) → (F ++ y ∷ []) ++ b ∷ [] ≡ F ++ y ∷ b ∷ []
 append-two [] y b = refl
@@ -77,21 +68,38 @@ last-reverse xs p =
     let n : length xs - 1 - 0 ≡ length xs - 1 = omega arith in
     sym (last-is (reverse xs) ∙ get_or-reverse xs 0 0 q ∙ ap (λ i. get_or xs i 0) n)
 
-behind-push : (xs : List ℕ) (x : ℕ) → behind (reverse (xs ++ x ∷ [])) ≡ reverse xs
-unfolding behind
-behind-push xs x = ap behind (reverse-push xs x)
+last-split : (xs : List ℕ) → 0 < length xs → xs ≡ take (length xs - 1) xs ++ get_or xs (length xs - 1) 0 ∷ []
+last-split xs p =
+    let n : length xs - 1 + 1 ≡ length xs = omega arith in
+    sym (take_all (length xs) xs (omega arith)) ∙ ap (λ i. take i xs) (sym n) ∙ take_more xs (length xs - 1) 0 (omega arith)
 
-pub behind-pop :
-    (old new : List ℕ) (r : Option ℕ) → IfNone r (old ≡ new) → IfNone r (old ≡ []) →
-    IfSome r (λ i. old ≡ new ++ i ∷ []) → behind (reverse old) ≡ reverse new
+reverse-front : (xs : List ℕ) → 0 < length xs → reverse (take (length xs - 1) xs) ≡ behind (reverse xs)
 unfolding behind
-behind-pop old new None same empty some =
-    ap (λ l. behind (reverse l)) empty ∙ ap reverse (sym empty ∙ same)
-behind-pop old new (Some i) same empty some =
-    ap (λ l. behind (reverse l)) some ∙ behind-push new i
+reverse-front xs p =
+    sym (ap (λ l. behind (reverse l)) (last-split xs p)
+    ∙ ap behind (reverse-push (take (length xs - 1) xs) (get_or xs (length xs - 1) 0)))
 
-pub with_last-empty : (xs : List ℕ) (x : ℕ) → length xs < 1 → reverse xs ≡ with_last x (reverse xs)
-with_last-empty xs x p = rw (empty-is xs p) refl
+pub front-take : (xs : List ℕ) → reverse (take (length xs - 1) xs) ≡ behind (reverse xs)
+unfolding behind
+front-take [] = refl
+front-take (x ∷ xs) = reverse-front (x ∷ xs) (omega arith)
+
+-- the bytes that were there before, of which the last one's value is known
+pub restored :
+    (before after : List ℕ) (n x : ℕ) → length before ≡ n → last_byte (reverse before) ≡ x → IsGrown before after → 0 < n →
+    set (take n after) (n - 1) x ≡ before
+restored before after n x is_n is_x grown pos =
+    let T = take n after in
+    let long : length T ≡ n = length-take-le n after (omega (arith, grown.more)) in
+    let next : n - 1 + 1 ≡ n = omega arith in
+    let whole : set T (n - 1) x ≡ take (n - 1 + 1) (set T (n - 1) x) =
+    sym (take_all (n - 1 + 1) (set T (n - 1) x) (omega (arith, long, length-set T (n - 1) x))) in
+    let front : take (n - 1) T ≡ take (length before - 1) before =
+    take-take (n - 1) n after (omega arith) ∙ ap (λ n. take (n - 1) after) (sym is_n) ∙ grown.front in
+    let last : x ≡ get_or before (length before - 1) 0 = sym (last-reverse before (omega (arith, is_n)) ∙ is_x) in
+    whole ∙ take_more_set T (n - 1) x (omega (arith, long))
+    ∙ ap (λ l. l ++ x ∷ []) front ∙ ap (λ y. take (length before - 1) before ++ y ∷ []) last
+    ∙ sym (last-split before (omega (arith, is_n)))
 
 pub with_last-same : (bytes : List ℕ) (x : ℕ) → last_byte bytes ≡ x → with_last x bytes ≡ bytes
 unfolding last_byte

@@ -1,24 +1,23 @@
 -- An ending, and the codeword that is made from it.
-use Rattle.std.proofs.Common.{subst, ◌≡◌, ℕ, ◌+◌, ◌-◌, ◌*◌, ◌/◌, ◌%◌, ◌^◌, ◌<◌, ◌≤◌, ◌≢◌, List, [], ◌∷◌, ◌++◌, reverse, length, take, refl, sym, ap, ◌∙◌, arith, append_assoc, inl, inr, zero, suc}
+use Rattle.std.proofs.Common.{subst, ◌≡◌, ℕ, ◌+◌, ◌-◌, ◌*◌, ◌/◌, ◌%◌, ◌^◌, ◌<◌, ◌≤◌, ◌≢◌, List, [], ◌∷◌, ◌++◌, reverse, length, map, take, get_or, refl, sym, ap, ◌∙◌, arith, append_assoc, inl, inr, zero, suc}
 use Rattle.std.specs.Prelude.{bit_and}
-use Rattle.std.proofs.lemmas.List.{reverse-reverse, length-reverse, reverse-append}
+use Rattle.std.proofs.lemmas.List.{reverse-reverse, length-reverse, reverse-append, map_more, take-append-le}
 use Rattle.std.proofs.lemmas.Nat.{and_mask}
-use Rattle.codec_terms.specs.Mq.{Registers, Decision, last_byte, behind, coded, coded_from, start, codeword, without_last_ff, with_carry, doubled, renormalised, lower_part, upper_part, coded_one, state_at, is_mps, qe_of, Encoder}
-use Rattle.mq_coder.specs.Endings.{Continues, ending_of}
+use Rattle.codec_terms.specs.Mq.{Registers, Decision, last_byte, behind, coded, coded_from, with_carry, doubled, renormalised, coded_one, state_at, is_mps, qe_of, Encoder}
+use Rattle.mq_coder.specs.Endings.{Continues, ending_of, interval_at}
 use Rattle.mq_coder.specs.Marks.{mark_of}
 use Rattle.mq_laws.specs.Ready.{Clean, Ready, Sound, Valid}
-use Rattle.mq_coder.specs.Bytes.{with_last, registers_of}
-use Rattle.mq_coder.specs.Tails.{IsTail}
+use Rattle.mq_coder.specs.Bytes.{with_last, registers_of, IsGrown}
+use Rattle.mq_coder.specs.Runs.{encoder_at}
 use Rattle.mq_coder.specs.declared.interval.Interval.{Interval}
-use Rattle.mq_coder.specs.declared.tail.Tail.{Tail}
-use Rattle.mq_coder.proofs.Endings.{flushed-is}
 use Rattle.mq_coder.specs.declared.ending.Ending.{Ending}
-use Rattle.mq_laws.proofs.Decisions.{ready-coded_from, renorm-zero, renorm-cases, part-cases, valid-part, coded-registers, ready-coded_one, coded_from-cons, coded_from-nil}
+use Rattle.mq_laws.proofs.Decisions.{renorm-zero, renorm-cases, valid-part, coded-registers, ready-coded_one, coded_from-cons, coded_from-nil}
 use Rattle.mq_laws.specs.Parts.{part_kept}
+use Rattle.mq_laws.proofs.Lengths.{part-bytes, coded-ready, grows-coded_from}
 use Rattle.mq_laws.proofs.Sound.{Out}
 use Rattle.mq_laws.proofs.Steps.{regs, ct-form, doubled-quiet, doubled-out, valid-doubled}
-use Rattle.mq_coder.proofs.Outputs.{reverse-push}
-use Rattle.mq_laws.proofs.ReadBack.{ready-start}
+use Rattle.mq_coder.proofs.Outputs.{reverse-push, front-take}
+use Rattle.mq_coder.proofs.Endings.{length-with_last}
 
 pub behind-length : (l : List ℕ) → length (behind l) ≡ length l - 1
 unfolding behind
@@ -35,10 +34,6 @@ mark-of (b ∷ l) p = refl
 
 pub mark-reverse : (bytes : List ℕ) → length bytes ≢ 0 → 0x1000000 + last_byte (reverse bytes) * 0x10000 ≡ mark_of (reverse bytes)
 mark-reverse bytes p = mark-of (reverse bytes) (omega (arith, length-reverse bytes))
-
-pub ready-coded : (ds : List Decision) → Ready (coded ds).registers
-unfolding coded
-ready-coded ds = ready-coded_from start ds ready-start
 
 -- what an ending keeps of the registers
 pub record Holds (r : Registers) (bytes : List ℕ) (en : Ending) : Type 0 where
@@ -57,7 +52,7 @@ holds ds bytes en k =
       ct = ap (λ e. e.ct) k.taken;
       kept = ap (λ e. e.kept) k.taken;
       begins = k.begins;
-      ready = ready-coded ds;
+      ready = coded-ready ds;
     }
 
 mark-small : (l : List ℕ) → Clean l → mark_of l % 0x10000 ≡ 0
@@ -70,12 +65,12 @@ low-half r bytes en h =
     ∙ omega (arith, h.a, h.ready.valid.narrow, mark-small r.bytes h.ready.valid.sound.clean)
 
 by-bytes-none :
-    (a en_a : ℕ) (l : List ℕ) → a < 2 ^ 16 → en_a ≡ a + mark_of l → en_a / 2 ^ 24 ≤ 0 → l ≡ []
+    (a en_a : ℕ) (l : List ℕ) → a < 2 ^ 16 → en_a ≡ a + mark_of l → en_a < 0x1000000 → l ≡ []
 by-bytes-none a en_a [] p e q = refl
 by-bytes-none a en_a (b ∷ l) p e q = absurd (omega arith)
 
 pub begun-none :
-    (r : Registers) (bytes : List ℕ) (en : Ending) → Holds r bytes en → en.a / 2 ^ 24 ≤ 0 →
+    (r : Registers) (bytes : List ℕ) (en : Ending) → Holds r bytes en → en.a < 0x1000000 →
     reverse (take en.kept bytes) ≡ r.bytes
 unfolding behind
 begun-none r bytes en h p =
@@ -83,7 +78,7 @@ begun-none r bytes en h p =
     ap reverse (h.begins ∙ ap (λ l. reverse (behind l)) none) ∙ sym none
 
 mark-byte :
-    (a en_a : ℕ) (l : List ℕ) → a < 2 ^ 16 → Clean l → en_a ≡ a + mark_of l → 0 < en_a / 2 ^ 24 →
+    (a en_a : ℕ) (l : List ℕ) → a < 2 ^ 16 → Clean l → en_a ≡ a + mark_of l → 0x1000000 ≤ en_a →
     (bit_and (en_a / 2 ^ 16) 255) ∷ behind l ≡ l
 unfolding behind Clean
 mark-byte a en_a [] p k e q = absurd (omega arith)
@@ -92,69 +87,19 @@ mark-byte a en_a (b ∷ l) p k e q =
     ap (λ x. x ∷ l) low
 
 pub begun-some :
-    (r : Registers) (bytes out : List ℕ) (en : Ending) → Holds r bytes en → 0 < en.a / 2 ^ 24 →
-    out ≡ take en.kept bytes ++ (bit_and (en.a / 2 ^ 16) 255) ∷ [] → reverse out ≡ r.bytes
-begun-some r bytes out en h p q =
-    ap reverse q ∙ reverse-push (take en.kept bytes) (bit_and (en.a / 2 ^ 16) 255)
+    (r : Registers) (bytes : List ℕ) (en : Ending) → Holds r bytes en → 0x1000000 ≤ en.a →
+    reverse (take en.kept bytes ++ (bit_and (en.a / 2 ^ 16) 255) ∷ []) ≡ r.bytes
+begun-some r bytes en h p =
+    reverse-push (take en.kept bytes) (bit_and (en.a / 2 ^ 16) 255)
     ∙ ap (λ l. (bit_and (en.a / 2 ^ 16) 255) ∷ l) (ap reverse h.begins ∙ reverse-reverse (behind r.bytes))
     ∙ mark-byte r.a en.a r.bytes h.ready.valid.narrow h.ready.valid.sound.clean h.a p
 
--- ---- the end of the codeword, from the registers that an ending keeps
-
-pub within-of : (r : Registers) (bytes : List ℕ) (en : Ending) (ct : ℕ) → Holds r bytes en → ct ≡ en.ct →
-    (en.c + bit_and en.a 0xFFFF) * 2 ^ ct ≤ 0x9000000
-within-of r bytes en ct h p =
-    rw (low-half r bytes en h, p, h.ct, h.c) h.ready.valid.sound.within
-
-pub wide-of : (r : Registers) (bytes : List ℕ) (en : Ending) → Holds r bytes en → 0x8000 ≤ bit_and en.a 0xFFFF
-wide-of r bytes en h = rw (low-half r bytes en h) h.ready.high
-
-pub shifts-of : (r : Registers) (bytes : List ℕ) (en : Ending) (ct : ℕ) → Holds r bytes en → ct ≡ en.ct → ct ≤ 12
-shifts-of r bytes en ct h p = omega (arith, h.ct, h.ready.valid.shifts)
-
-pub resumed :
-    (ds : List Decision) (bytes out : List ℕ) (en : Ending) (at : Interval) (new : List ℕ) (last : ℕ) (t : Tail) →
-    Continues ds bytes en → reverse out ≡ (coded ds).registers.bytes →
-    at.a ≡ bit_and en.a 0xFFFF → at.c ≡ en.c → at.ct ≡ en.ct →
-    last ≡ last_byte (reverse out) → IsTail last at t →
-    reverse new ≡ without_last_ff (t.second ∷ t.first ∷ with_last t.last (reverse out)) → new ≡ codeword ds
-unfolding codeword
-resumed ds bytes out en at new last t k is_out is_a is_c is_ct is_last tail is_new =
-    let h = holds ds bytes en k in
-    let r = (coded ds).registers in
-    let same : record { registers = registers_of at out; states = (coded ds).states } ≡ coded ds =
-    rw (is_a, low-half r bytes en h, is_c, h.c, is_ct, h.ct, is_out) refl in
-    flushed-is (coded ds) at out new (coded ds).states last t same is_last tail is_new
-
--- ---- an ending of no decisions
-
-coded-none : coded [] ≡ start
-unfolding coded coded_from
-coded-none = refl
-
-start-bytes : start.registers.bytes ≡ []
-unfolding start
-start-bytes = refl
-
-none-kept : reverse (behind []) ≡ []
-unfolding behind
-none-kept = refl
-
-behind-none : length (behind []) ≡ 0
-unfolding behind
-behind-none = refl
-
-take-none : (n : ℕ) (xs : List ℕ) → n ≡ 0 → take n xs ≡ []
-take-none n xs p = ap (λ n. take n xs) p
-
-pub continues-start : (bytes : List ℕ) (en : Ending) → en ≡ ending_of start → Continues [] bytes en
-continues-start bytes en p =
-    let none : (coded []).registers.bytes ≡ [] = ap (λ e. e.registers.bytes) coded-none ∙ start-bytes in
-    let kept : en.kept ≡ 0 = ap (λ e. e.kept) p ∙ ap (λ l. length (behind l)) start-bytes ∙ behind-none in
-    record {
-      taken = p ∙ ap ending_of (sym coded-none);
-      begins = take-none en.kept bytes kept ∙ sym (ap (λ l. reverse (behind l)) none ∙ none-kept);
-    }
+-- the registers of a coder that goes on
+pub again :
+    (r : Registers) (bytes out : List ℕ) (en : Ending) (at : Interval) → Holds r bytes en → reverse out ≡ r.bytes →
+    at ≡ interval_at en → registers_of at out ≡ r
+again r bytes out en at h is_out is_at =
+    rw (is_at, low-half r bytes en h, h.c, h.ct, is_out) refl
 
 -- ---- bytes that came out stay
 
@@ -212,21 +157,12 @@ renorm-begins (suc n) r v =
     (doubled-begins r v low) (renorm-begins n (doubled r) (valid-doubled r v low)))
     (λ _. begins-self (behind r.bytes))
 
-lower-bytes : (qe : ℕ) (r : Registers) → (lower_part qe r).bytes ≡ r.bytes
-unfolding lower_part
-lower-bytes qe r = refl
-
-upper-bytes : (qe : ℕ) (r : Registers) → (upper_part qe r).bytes ≡ r.bytes
-unfolding upper_part
-upper-bytes qe r = refl
-
 one-begins : (e : Encoder) (d : Decision) → Ready e.registers → Begins (behind e.registers.bytes) (behind (coded_one e d).registers.bytes)
 one-begins e d ready =
     let s = state_at e.states d.context in
     let m = is_mps d.bit s in
     let p = part_kept m (qe_of s) e.registers in
-    let same : p.bytes ≡ e.registers.bytes =
-    part-cases m (qe_of s) e.registers (λ x. x.bytes ≡ e.registers.bytes) (λ _. lower-bytes (qe_of s) e.registers) (λ _. upper-bytes (qe_of s) e.registers) in
+    let same : p.bytes ≡ e.registers.bytes = part-bytes m (qe_of s) e.registers in
     subst (λ x. Begins (behind e.registers.bytes) (behind x.bytes)) (sym (coded-registers e d ready.high))
     (subst (λ l. Begins (behind l) (behind (renormalised 15 p).bytes)) same (renorm-begins 15 p (valid-part m s e.registers ready)))
 
@@ -252,22 +188,75 @@ whole-begins before after p = begins-trans (behind before) (behind after) after 
 
 -- an ending goes on over the bytes of the same coder after any further decisions
 pub continues-later :
-    (ds later : List Decision) (en : Ending) → en ≡ ending_of (coded ds) →
-    Continues ds (reverse (coded_from (coded ds) later).registers.bytes) en
-continues-later ds later en p =
-    let kept : en.kept ≡ length (behind (coded ds).registers.bytes) = ap (λ e. e.kept) p in
+    (ds later : List Decision) (rest : List ℕ) →
+    Continues ds (reverse (coded_from (coded ds) later).registers.bytes ++ rest) (ending_of (coded ds))
+continues-later ds later rest =
+    let before = (coded ds).registers.bytes in
+    let after = (coded_from (coded ds) later).registers.bytes in
+    let begins = coded-begins (coded ds) later (coded-ready ds) in
+    let within : length (behind before) ≤ length (reverse after) =
+    omega (arith, behind-length before, length-reverse after, grows-coded_from (coded ds) later (coded-ready ds)) in
     record {
-      taken = p;
+      taken = refl;
       begins =
-          ap (λ n. take n (reverse (coded_from (coded ds) later).registers.bytes)) kept
-          ∙ kept-front (coded ds).registers.bytes (coded_from (coded ds) later).registers.bytes
-          (whole-begins (coded ds).registers.bytes (coded_from (coded ds) later).registers.bytes
-          (coded-begins (coded ds) later (ready-coded ds)));
+          take-append-le (length (behind before)) (reverse after) rest within
+          ∙ kept-front before after (whole-begins before after begins);
     }
 
--- ---- one decision more
+pub continues-now :
+    (ds : List Decision) (rest : List ℕ) → Continues ds (reverse (coded ds).registers.bytes ++ rest) (ending_of (coded ds))
+unfolding coded_from
+continues-now ds rest = continues-later ds [] rest
+
+-- ---- a run of decisions
+
+pub run-none : (e : Encoder) (f : ℕ → Decision) (xs : List ℕ) → e ≡ coded_from e (map f (take 0 xs))
+unfolding coded_from
+run-none e f xs = refl
 
 coded_from-push : (e : Encoder) (ds : List Decision) (d : Decision) → coded_from e (ds ++ d ∷ []) ≡ coded_one (coded_from e ds) d
 unfolding coded_from
 coded_from-push e [] d = refl
 coded_from-push e (x ∷ ds) d = coded_from-push (coded_one e x) ds d
+
+pub run-more : (e e1 e2 : Encoder) (f : ℕ → Decision) (xs : List ℕ) (i : ℕ) → i < length xs →
+    e1 ≡ coded_from e (map f (take i xs)) → e2 ≡ coded_one e1 (f (get_or xs i 0)) → e2 ≡ coded_from e (map f (take (i + 1) xs))
+run-more e e1 e2 f xs i p so_far next =
+    next ∙ ap (λ x. coded_one x (f (get_or xs i 0))) so_far
+    ∙ sym (ap (coded_from e) (map_more f xs i 0 p) ∙ coded_from-push e (map f (take i xs)) (f (get_or xs i 0)))
+
+-- the same of the bytes in order
+grown-by : (before after : List ℕ) → length before ≤ length after → Begins (behind (reverse before)) (behind (reverse after)) →
+    IsGrown before after
+grown-by before after long begins =
+    let size : length (behind (reverse before)) ≡ length before - 1 = sym (front-length before) in
+    let front : reverse (behind (reverse before)) ≡ take (length before - 1) before =
+    ap reverse (sym (front-take before)) ∙ reverse-reverse (take (length before - 1) before) in
+    record {
+      more = long;
+      front =
+          ap (λ n. take n after) (sym size) ∙ ap (take (length (behind (reverse before)))) (sym (reverse-reverse after))
+          ∙ kept-front (reverse before) (reverse after) (whole-begins (reverse before) (reverse after) begins) ∙ front;
+    }
+
+pub run-grown : (at now : Interval) (before after states states' : List ℕ) (ds : List Decision) → Ready (registers_of at before) →
+    encoder_at now after states' ≡ coded_from (encoder_at at before states) ds → IsGrown before after
+run-grown at now before after states states' ds ready same =
+    let e = encoder_at at before states in
+    let bytes : reverse after ≡ (coded_from e ds).registers.bytes = ap (λ x. x.registers.bytes) same in
+    grown-by before after
+    (omega (arith, grows-coded_from e ds ready, ap length bytes, length-reverse before, length-reverse after))
+    (subst (λ l. Begins (behind (reverse before)) (behind l)) (sym bytes) (coded-begins e ds ready))
+
+put-begins : (bs : List ℕ) (x : ℕ) → Begins (behind bs) (with_last x bs)
+unfolding behind
+put-begins [] x = begins-self []
+put-begins (b ∷ bs) x = record { more = x ∷ []; same = refl }
+
+pub put-grown : (before after : List ℕ) (byte last : ℕ) → reverse after ≡ byte ∷ with_last last (reverse before) → IsGrown before after
+unfolding behind
+put-grown before after byte last is_put =
+    let size : length (with_last last (reverse before)) ≡ length (reverse before) = length-with_last last (reverse before) in
+    grown-by before after
+    (omega (arith, size, ap length is_put, length-reverse before, length-reverse after))
+    (subst (λ l. Begins (behind (reverse before)) l) (sym (ap behind is_put)) (put-begins (reverse before) last))

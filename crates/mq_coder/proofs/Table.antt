@@ -1,12 +1,14 @@
 -- The table of states is Table C.2 at each of its 94 entries, by computing.
-use Rattle.std.proofs.Common.{◌≡◌, ℕ, zero, suc, ◌<◌, Bool, true, false, ◌&&◌, get_or, List, refl, ap₂, arith, inl, inr}
-use Rattle.std.specs.Prelude.{nat_lt, ◌==◌}
+use Rattle.std.proofs.Common.{◌≡◌, ℕ, zero, suc, ◌+◌, ◌*◌, ◌/◌, ◌%◌, ◌^◌, ◌<◌, Bool, true, false, cond, ◌&&◌, get_or, List, refl, sym, subst, ap₂, arith, inl, inr}
+use Rattle.std.specs.Prelude.{nat_lt, ◌==◌, bit_and}
+use Rattle.std.proofs.lemmas.Nat.{and_mask}
 use Rattle.std.specs.Bool.{beq}
 use Rattle.std.proofs.lemmas.Bool.{cases_eq, and_parts, ltb-true, eqb-true}
-use Rattle.codec_terms.specs.Mq.{State, row_at, probabilities, qe_of, after_mps, after_lps}
-use Rattle.mq_coder.specs.Rows.{state_of, IsRow}
+use Rattle.codec_terms.specs.Mq.{State, row_at, probabilities, qe_of, is_mps, after_mps, after_lps}
+use Rattle.mq_coder.specs.Rows.{state_of, IsRow, IsStep}
 use Rattle.mq_coder.specs.declared.rows.Row.{Row}
-use Rattle.mq_coder.specs.declared.rows.TheConstants.{ROWS}
+use Rattle.mq_coder.specs.declared.rows.TheConstants.{ROWS, STEPS}
+use Rattle.mq_coder.specs.declared.rows.Step.{Step}
 
 pub beq-true : (x y : Bool) → beq x y ≡ true → x ≡ y
 beq-true true true h = refl
@@ -70,3 +72,67 @@ row-below rows (suc n) i h p =
 pub rows-are : (i : ℕ) → i < 94 → IsRow i (get_or ROWS i (record { qe = 0; mps = false; after_mps = 0; after_lps = 0 }))
 unfolding all_rows is_row same_state qe_of row_at probabilities after_mps after_lps
 rows-are i p = row-below ROWS 94 i refl p
+
+-- ---- steps, by states and bits
+
+abbrev pub step_in : ℕ → Step
+step_in w = record { qe = w % 2 ^ 16; is_mps = w / 2 ^ 31 == 1; next = w / 2 ^ 16 % 2 ^ 7 }
+
+is_step : ℕ → ℕ → ℕ → Bool
+is_step n b w =
+    (w % 2 ^ 16 == qe_of (state_of n)) && beq (w / 2 ^ 31 == 1) (is_mps (b == 1) (state_of n))
+    && same_state (state_of (w / 2 ^ 16 % 2 ^ 7)) (cond (is_mps (b == 1) (state_of n)) (after_mps (state_of n)) (after_lps (state_of n)))
+    && nat_lt (w / 2 ^ 16 % 2 ^ 7) 94
+
+is_step-is : (n b w : ℕ) → is_step n b w ≡ true → IsStep n b (step_in w)
+unfolding is_step
+is_step-is n b w h =
+    let p1 = and_parts _ (nat_lt (w / 2 ^ 16 % 2 ^ 7) 94) h in
+    let p2 = and_parts _ (same_state (state_of (w / 2 ^ 16 % 2 ^ 7)) (cond (is_mps (b == 1) (state_of n)) (after_mps (state_of n)) (after_lps (state_of n)))) p1.0 in
+    let p3 = and_parts (w % 2 ^ 16 == qe_of (state_of n)) (beq (w / 2 ^ 31 == 1) (is_mps (b == 1) (state_of n))) p2.0 in
+    record {
+      qe = eqb-true (w % 2 ^ 16) (qe_of (state_of n)) p3.0;
+      is_mps_is = beq-true (w / 2 ^ 31 == 1) (is_mps (b == 1) (state_of n)) p3.1;
+      next_is = same_state-is (state_of (w / 2 ^ 16 % 2 ^ 7)) (cond (is_mps (b == 1) (state_of n)) (after_mps (state_of n)) (after_lps (state_of n))) p2.1;
+      next_state = ltb-true (w / 2 ^ 16 % 2 ^ 7) 94 p1.1;
+    }
+
+all_steps : List ℕ → ℕ → Bool
+all_steps steps zero = true
+all_steps steps (suc n) = is_step n 0 (get_or steps (2 * n + 0) 0) && is_step n 1 (get_or steps (2 * n + 1) 0) && all_steps steps n
+
+step-below : (steps : List ℕ) (n i b : ℕ) → all_steps steps n ≡ true → i < n → b < 2 → IsStep i b (step_in (get_or steps (2 * i + b) 0))
+unfolding all_steps
+step-below steps zero i b h p q = absurd (omega arith)
+step-below steps (suc n) i b h p q =
+    let both = and_parts (is_step n 0 (get_or steps (2 * n + 0) 0) && is_step n 1 (get_or steps (2 * n + 1) 0)) (all_steps steps n) h in
+    let bits = and_parts (is_step n 0 (get_or steps (2 * n + 0) 0)) (is_step n 1 (get_or steps (2 * n + 1) 0)) both.0 in
+    elim (cases_eq i n) [
+      | inl e ↦ elim (cases_eq b 0) [
+        | inl z ↦ rw (e, z) (is_step-is n 0 (get_or steps (2 * n + 0) 0) bits.0)
+        | inr z ↦ (let one : b ≡ 1 = omega arith in rw (e, one) (is_step-is n 1 (get_or steps (2 * n + 1) 0) bits.1))
+      ]
+      | inr e ↦ step-below steps n i b both.1 (omega arith) q
+    ]
+
+steps-are : (n b : ℕ) → n < 94 → b < 2 → IsStep n b (step_in (get_or STEPS (2 * n + b) 0))
+unfolding all_steps is_step same_state qe_of is_mps row_at probabilities after_mps after_lps
+steps-are n b p q = step-below STEPS 94 n b refl p q
+
+-- the same, by masks
+step-masked : (n b w : ℕ) → IsStep n b (step_in w) →
+    IsStep n b (record { qe = bit_and w 0xFFFF; is_mps = w / 2 ^ 31 == 1; next = bit_and (w / 2 ^ 16) 0x7F })
+step-masked n b w h =
+    let low : bit_and w 0xFFFF ≡ w % 2 ^ 16 = and_mask w 16 in
+    let high : bit_and (w / 2 ^ 16) 0x7F ≡ w / 2 ^ 16 % 2 ^ 7 = and_mask (w / 2 ^ 16) 7 in
+    rw (low, high) h
+
+pub steps-at : (n b n' b' : ℕ) → n < 94 → b < 2 → n' ≡ n → b' ≡ b →
+    IsStep n b (record {
+      qe = bit_and (get_or STEPS (2 * n' + b') 0) 0xFFFF;
+      is_mps = get_or STEPS (2 * n' + b') 0 / 2 ^ 31 == 1;
+      next = bit_and (get_or STEPS (2 * n' + b') 0 / 2 ^ 16) 0x7F;
+    })
+steps-at n b n' b' p q e f =
+    step-masked n b (get_or STEPS (2 * n' + b') 0)
+    (subst (λ i. IsStep n b (step_in (get_or STEPS i 0))) (sym (ap₂ (λ n b. 2 * n + b) e f)) (steps-are n b p q))

@@ -1,5 +1,5 @@
 -- Bytes that come out of the encoder, and doublings by a count.
-use Rattle.std.specs.Prelude.{◌≡◌, ℕ, zero, suc, List, [], ◌∷◌, reverse}
+use Rattle.std.specs.Prelude.{◌≡◌, ◌≤◌, ℕ, ◌-◌, zero, suc, List, [], ◌∷◌, ◌++◌, Option, None, Some, length, take, reverse}
 use Rattle.codec_terms.specs.Mq.{Registers, last_byte, byte_out, doubled}
 use Rattle.mq_coder.specs.declared.interval.NextByte.{NextByte}
 use Rattle.mq_coder.specs.declared.interval.Interval.{Interval}
@@ -23,3 +23,13 @@ pub record IsNext (last c : ℕ) (n : NextByte) : Type 0 where
 unfoldable pub doublings : ℕ → Registers → Registers
 doublings zero r = r
 doublings (suc n) r = doublings n (doubled r)
+
+-- the list, and the item behind it if there is one
+abbrev pub with_item : List ℕ → Option ℕ → List ℕ
+with_item xs None = xs
+with_item xs (Some x) = xs ++ x ∷ []
+
+-- bytes came behind these, of which the last may have changed
+pub record IsGrown (before after : List ℕ) : Type 0 where
+  pub more : length before ≤ length after
+  pub front : take (length before - 1) after ≡ take (length before - 1) before

@@ -7,3 +7,6 @@ pub mod Seen
 pub mod Tails
 pub mod Values
 pub mod Sources
+pub mod Decisions
+pub mod Runs
+pub mod Numbers

@@ -1,6 +1,9 @@
-use crate::ending::{Ending, front_len, last_mark};
-use crate::interval::{Interval, doubled, last_of, part_of, shifted};
-use crate::rows::{START, row_of};
+use crate::ending::{Ending, begin, front_len, interval_of, last_mark};
+use crate::interval::{FIRST, Interval, last_of, restore};
+use crate::output::Output;
+use crate::rows::START;
+use crate::run::{code_one, code_run};
+use crate::states::States;
 use crate::tail::{end_with, tail_of};
 use mast_base::{Bytes, NoMemory};
 use std::alloc::Global;
@@ -11,7 +14,7 @@ use std::marker::Model;
 pub struct Coder {
     at: Interval,
     states: [u8; 19],
-    bytes: Bytes,
+    bytes: Output,
 }
 
 impl Model for Coder {
@@ -27,23 +30,29 @@ impl Model for Coder {
 }
 
 impl Coder {
-    ghost use Rattle.std.specs.Prelude.{◌≡◌, ◌<◌, ◌^◌, OnOk, OnErr, IfOk, List, length, reverse};
-    ghost use Rattle.codec_terms.specs.Mq.{Decision, contexts_of, bits_of, start, coded_one, coded, codeword, flushed_bytes, decoded};
-    ghost use Rattle.mq_coder.specs.Endings.{ending_of};
+    ghost use Rattle.std.specs.Prelude.{◌≡◌, ◌<◌, ◌^◌, OnOk, OnErr, IfOk, All, List, length, map, reverse};
+    ghost use Rattle.codec_terms.specs.Mq.{Decision, contexts_of, bits_of, start, coded_one, coded_from, coded, codeword, flushed_bytes, decoded};
+    ghost use Rattle.mq_coder.specs.Decisions.{decision_of};
+    ghost use Rattle.mq_coder.specs.Endings.{ending_of, HasPaused};
 
     /// An encoder of no decisions yet (INITENC, C.2.8). It takes no memory.
     pub fn new(alloc: Global) -> Self
         ensures { result ≡ start }
     {
         Coder {
-            at: Interval {
-                a: 0x8000,
-                c: 0,
-                ct: 12,
-            },
+            at: FIRST,
             states: START,
-            bytes: Bytes::new(alloc),
+            bytes: Output::new(alloc),
         }
+    }
+
+    /// The same coder with no decisions yet, in the memory that it has.
+    pub fn start_again(&mut self)
+        ensures { self.new ≡ start }
+    {
+        self.bytes.truncate(0);
+        self.states = START;
+        self.at = FIRST;
     }
 
     /// Codes one decision (ENCODE, C.2.2). After `NoMemory` the coder is as it was.
@@ -52,38 +61,59 @@ impl Coder {
         ensures ok { OnOk result (self.new ≡ coded_one self.old (record { context = context; bit = bit })) }
         ensures err { OnErr result (self.new ≡ self.old) }
     {
-        let row = row_of(self.states[context as usize]);
-        let is_mps = bit == row.mps;
-        let part = part_of(self.at, row.qe, is_mps);
-        if 0x8000 <= part.a {
-            // By its fields: a struct that is copied whole goes through memory here.
-            self.at = Interval {
-                a: part.a,
-                c: part.c,
-                ct: part.ct,
-            };
-            return Ok(());
-        }
-        let next = if is_mps { row.after_mps } else { row.after_lps };
-        let shift = part.a.leading_zeros() - 16;
-        if shift < part.ct {
-            self.at = shifted(part, shift);
-            self.states[context as usize] = next;
-            return Ok(());
-        }
-        let whole = Interval {
-            a: part.a,
-            c: part.c,
-            ct: part.ct,
-        };
-        let done = doubled(&mut self.bytes, whole, shift)?;
+        let decision = 2 * context + u8::from(bit);
+        let done = code_one(&mut self.bytes, &mut self.states, self.at, decision)?;
         self.at = Interval {
             a: done.a,
             c: done.c,
             ct: done.ct,
         };
-        self.states[context as usize] = next;
         Ok(())
+    }
+
+    /// Codes decisions in order, each twice its context and one more where its bit is 1. After `NoMemory` the coder
+    /// is as it was.
+    pub fn code_all(&mut self, decisions: &[u8]) -> Result<(), NoMemory>
+        requires { All (λ d. d < 38) decisions.now }
+        ensures ok { OnOk result (self.new ≡ coded_from self.old (map decision_of decisions.now)) }
+        ensures err { OnErr result (self.new ≡ self.old) }
+    {
+        let len = self.bytes.len();
+        let last = last_of(self.bytes.as_slice());
+        let states = self.states;
+        match code_run(&mut self.bytes, &mut self.states, self.at, decisions) {
+            Ok(done) => {
+                self.at = done;
+                Ok(())
+            }
+            Err(NoMemory) => {
+                restore(&mut self.bytes, len, last);
+                self.states = states;
+                Err(NoMemory)
+            }
+        }
+    }
+
+    /// Makes this the coder of the decisions at which the ending and the states were taken, so that it goes on behind
+    /// them. `bytes` begins with the `kept` bytes of that coder. After `NoMemory` the coder is as it was.
+    pub fn go_on(&mut self, bytes: &[u8], ending: &Ending, states: &States) -> Result<(), NoMemory>
+        requires { (ds : List Decision) × HasPaused ds bytes.now ending.now states.now }
+        ensures ok { (ds : List Decision) → HasPaused ds bytes.now ending.now states.now → OnOk result (self.new ≡ coded ds) }
+        ensures err { OnErr result (self.new ≡ self.old) }
+    {
+        begin(&mut self.bytes, bytes, ending)?;
+        self.at = interval_of(ending);
+        self.states = states.by_context;
+        Ok(())
+    }
+
+    /// The states of the contexts, with which a coder goes on.
+    pub fn states(&self) -> States
+        ensures { result ≡ self.now.states }
+    {
+        States {
+            by_context: self.states,
+        }
     }
 
     /// The bytes that came out so far. A later carry may still change the last one.
@@ -133,6 +163,6 @@ impl Coder {
         } = self;
         let tail = tail_of(last_of(bytes.as_slice()), at);
         end_with(&mut bytes, tail)?;
-        Ok(bytes)
+        Ok(bytes.into_bytes())
     }
 }

@@ -1,9 +1,10 @@
-ghost use Rattle.std.specs.Prelude.{◌≡◌, ◌+◌, ◌*◌, ◌<◌, IfOk, List, length, reverse};
-ghost use Rattle.codec_terms.specs.Mq.{Decision, behind, coded, codeword};
-ghost use Rattle.mq_coder.specs.Endings.{Continues};
+ghost use Rattle.std.specs.Prelude.{◌≡◌, ◌+◌, ◌*◌, ◌<◌, IfOk, OnOk, OnErr, ℕ, List, ◌++◌, length, reverse};
+ghost use Rattle.codec_terms.specs.Mq.{Decision, behind, coded, coded_from, codeword};
+ghost use Rattle.mq_coder.specs.Endings.{Continues, ending_of, interval_at};
 ghost use Rattle.mq_coder.specs.Marks.{mark_of};
 
 use crate::interval::{Interval, last_of};
+use crate::output::Output;
 use crate::tail::{end_with, tail_of};
 use mast_base::{Bytes, NoMemory};
 use std::alloc::Global;
@@ -44,17 +45,31 @@ pub(crate) fn front_len(bytes: &[u8]) -> usize
     bytes.len().saturating_sub(1)
 }
 
-// The bytes that had come out, up to a carry.
-fn begun(alloc: Global, bytes: &[u8], ending: &Ending) -> Result<Bytes, NoMemory>
+/// Puts the bytes that had come out, up to a carry, in the place of others. After `NoMemory` those are as they were.
+pub(crate) fn begin(out: &mut Output, bytes: &[u8], ending: &Ending) -> Result<(), NoMemory>
     requires { (ds : List Decision) × Continues ds bytes.now ending.now }
-    ensures { (ds : List Decision) → Continues ds bytes.now ending.now →
-        IfOk result (λ out. reverse out ≡ (coded ds).registers.bytes) }
+    ensures ok { (ds : List Decision) → Continues ds bytes.now ending.now →
+        OnOk result (reverse out.new ≡ (coded ds).registers.bytes) }
+    ensures err { OnErr result (out.new ≡ out.old) }
 {
-    let mut out = Bytes::copy_of(alloc, &bytes[..ending.kept as usize])?;
-    if 0 < ending.a >> 24 {
-        out.push((ending.a >> 16 & 0xff) as u8)?;
+    let last = if ending.a < BYTE_CAME {
+        None
+    } else {
+        Some((ending.a >> 16 & 0xff) as u8)
+    };
+    out.refill(&bytes[..ending.kept as usize], last)?;
+    Ok(())
+}
+
+/// The interval at an ending.
+pub(crate) fn interval_of(ending: &Ending) -> Interval
+    ensures { result ≡ interval_at ending.now }
+{
+    Interval {
+        a: ending.a & 0xffff,
+        c: ending.c,
+        ct: u32::from(ending.ct),
     }
-    Ok(out)
 }
 
 /// The codeword of the decisions at which the ending was taken, where `bytes` begins with the `kept` bytes
@@ -63,13 +78,18 @@ pub fn flushed(alloc: Global, bytes: &[u8], ending: &Ending) -> Result<Bytes, No
     requires { (ds : List Decision) × Continues ds bytes.now ending.now }
     ensures { (ds : List Decision) → Continues ds bytes.now ending.now → IfOk result (λ out. out ≡ codeword ds) }
 {
-    let mut out = begun(alloc, bytes, ending)?;
-    let at = Interval {
-        a: ending.a & 0xffff,
-        c: ending.c,
-        ct: u32::from(ending.ct),
-    };
-    let tail = tail_of(last_of(out.as_slice()), at);
+    let mut out = Output::new(alloc);
+    begin(&mut out, bytes, ending)?;
+    let tail = tail_of(last_of(out.as_slice()), interval_of(ending));
     end_with(&mut out, tail)?;
-    Ok(out)
+    Ok(out.into_bytes())
 }
+
+/// An ending goes on over the bytes that its encoder has put out, then or at any later time, whatever stands behind
+/// them.
+pub fn ending_laws()
+    ensures now { (ds : List Decision) (rest : List ℕ)
+        → Continues ds (reverse (coded ds).registers.bytes ++ rest) (ending_of (coded ds)) }
+    ensures later { (ds later : List Decision) (rest : List ℕ)
+        → Continues ds (reverse (coded_from (coded ds) later).registers.bytes ++ rest) (ending_of (coded ds)) }
+{}

@@ -1,10 +1,11 @@
-ghost use Rattle.std.specs.Prelude.{◌≡◌, ◌+◌, ◌-◌, ◌*◌, ◌/◌, ◌%◌, ◌^◌, ◌<◌, ◌≤◌, ◌∷◌, IfOk, OnOk, OnErr, ℕ, List, reverse};
-ghost use Rattle.codec_terms.specs.Mq.{last_byte, behind};
-ghost use Rattle.mq_coder.specs.Bytes.{with_last, registers_of, IsNext, doublings};
+ghost use Rattle.std.specs.Prelude.{◌≡◌, ◌+◌, ◌-◌, ◌*◌, ◌/◌, ◌%◌, ◌^◌, ◌<◌, ◌≤◌, ◌∷◌, IfOk, OnOk, OnErr, ℕ, List, length, reverse};
+ghost use Rattle.codec_terms.specs.Mq.{last_byte, renormalised};
+ghost use Rattle.mq_coder.specs.Bytes.{with_last, registers_of, IsGrown, IsNext, doublings};
 ghost use Rattle.mq_laws.specs.Parts.{part_kept};
 ghost use Rattle.mq_laws.specs.Ready.{Valid};
 
-use mast_base::{Bytes, NoMemory};
+use crate::output::Output;
+use mast_base::NoMemory;
 
 /// The interval A, the code register C, and the doublings CT before the next byte.
 #[derive(Clone, Copy, Debug)]
@@ -13,6 +14,13 @@ pub(crate) struct Interval {
     pub(crate) c: u32,
     pub(crate) ct: u32,
 }
+
+/// The first interval (INITENC, C.2.8).
+pub(crate) const FIRST: Interval = Interval {
+    a: 0x8000,
+    c: 0,
+    ct: 12,
+};
 
 /// A byte that comes out, and what it leaves.
 #[derive(Clone, Copy, Debug)]
@@ -84,7 +92,7 @@ pub(crate) fn last_of(bytes: &[u8]) -> u8
 }
 
 /// Puts the byte behind the others, the last one of which becomes `last`.
-pub(crate) fn put(bytes: &mut Bytes, last: u8, byte: u8) -> Result<(), NoMemory>
+pub(crate) fn put(bytes: &mut Output, last: u8, byte: u8) -> Result<(), NoMemory>
     ensures ok { OnOk result (reverse bytes.new ≡ byte ∷ with_last last (reverse bytes.old)) }
     ensures err { OnErr result (bytes.new ≡ bytes.old) }
 {
@@ -96,12 +104,13 @@ pub(crate) fn put(bytes: &mut Bytes, last: u8, byte: u8) -> Result<(), NoMemory>
     Ok(())
 }
 
-// Takes the last byte away, and a carry from the one before it.
-fn take_back(bytes: &mut Bytes, last: u8)
-    ensures { reverse bytes.new ≡ with_last last (behind (reverse bytes.old)) }
+/// Takes away the bytes that came behind the first `len`, the last of which was `last`.
+pub(crate) fn restore(bytes: &mut Output, len: usize, last: u8)
+    requires { len ≤ length bytes.old }
+    ensures { (before : List ℕ) → length before ≡ len → last_byte (reverse before) ≡ last → IsGrown before bytes.old
+        → bytes.new ≡ before }
 {
-    let _byte = bytes.pop();
-    let len = bytes.len();
+    bytes.truncate(len);
     if 0 < len {
         bytes.set(len - 1, last);
     }
@@ -124,7 +133,7 @@ pub(crate) fn shifted(at: Interval, shift: u32) -> Interval
 
 /// The interval after `shift` doublings, with the bytes that they put out (RENORME, C.2.6).
 /// After `NoMemory` the bytes are as they were.
-pub(crate) fn doubled(bytes: &mut Bytes, at: Interval, shift: u32) -> Result<Interval, NoMemory>
+pub(crate) fn doubled(bytes: &mut Output, at: Interval, shift: u32) -> Result<Interval, NoMemory>
     requires valid { Valid (registers_of at bytes.old) }
     requires narrow { at.a * 2 ^ shift < 2 ^ 16 }
     ensures ok { IfOk result (λ r. doublings shift (registers_of at bytes.old) ≡ registers_of r bytes.new) }
@@ -133,6 +142,7 @@ pub(crate) fn doubled(bytes: &mut Bytes, at: Interval, shift: u32) -> Result<Int
     if shift < at.ct {
         return Ok(shifted(at, shift));
     }
+    let len = bytes.len();
     let last = last_of(bytes.as_slice());
     let next = next_byte(last, at.c << at.ct);
     put(bytes, next.last, next.byte)?;
@@ -148,27 +158,52 @@ pub(crate) fn doubled(bytes: &mut Bytes, at: Interval, shift: u32) -> Result<Int
     match doubled(bytes, rest, left) {
         Ok(done) => Ok(done),
         Err(NoMemory) => {
-            take_back(bytes, last);
+            restore(bytes, len, last);
             Err(NoMemory)
         }
     }
 }
 
-/// The part of the interval that a decision keeps (CODEMPS and CODELPS, C.2.4).
+/// The interval after as many doublings as bring A to 8000, with the bytes that they put out (RENORME, C.2.6).
+/// After `NoMemory` the bytes are as they were.
+pub(crate) fn renormalise(bytes: &mut Output, at: Interval) -> Result<Interval, NoMemory>
+    requires { Valid (registers_of at bytes.old) }
+    ensures ok { IfOk result (λ r. renormalised 15 (registers_of at bytes.old) ≡ registers_of r bytes.new) }
+    ensures err { OnErr result (bytes.new ≡ bytes.old) }
+{
+    let shift = at.a.leading_zeros() - 16;
+    if shift < at.ct {
+        return Ok(shifted(at, shift));
+    }
+    // By its fields: a struct that is copied whole goes through memory here.
+    let whole = Interval {
+        a: at.a,
+        c: at.c,
+        ct: at.ct,
+    };
+    doubled(bytes, whole, shift)
+}
+
+/// The part of the interval that a decision keeps (CODEMPS and CODELPS, C.2.4): the upper one for the more probable
+/// symbol and the lower one for the other, except where the upper one is narrower than Qe and they change places. By
+/// masks, since a branch here goes either way about as often.
 pub(crate) fn part_of(at: Interval, qe: u32, is_mps: bool) -> Interval
     requires qe { qe ≤ 0x5601 }
     requires wide { 0x8000 ≤ at.a }
+    requires narrow { at.a < 2 ^ 16 }
     requires code { at.c < 2 ^ 28 }
     ensures { (bytes : List ℕ) → registers_of result bytes ≡ part_kept is_mps qe (registers_of at bytes) }
 {
-    let rest = at.a - qe;
-    if (rest < qe) == is_mps {
-        Interval { a: qe, ..at }
+    // Below zero where the upper part is the narrower one.
+    let wider_by = at.a.wrapping_sub(2 * qe);
+    let upper = if (wider_by >> 31 == 1) != is_mps {
+        0xffff_ffff
     } else {
-        Interval {
-            a: rest,
-            c: at.c + qe,
-            ct: at.ct,
-        }
+        0
+    };
+    Interval {
+        a: qe.wrapping_add(wider_by & upper),
+        c: at.c + (qe & upper),
+        ct: at.ct,
     }
 }

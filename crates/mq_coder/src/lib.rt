@@ -4,11 +4,15 @@
 mod coder;
 mod ending;
 mod interval;
+mod output;
 mod reader;
 mod rows;
+mod run;
 mod source;
+mod states;
 mod tail;
 
 pub use coder::Coder;
-pub use ending::{Ending, flushed};
+pub use ending::{Ending, ending_laws, flushed};
 pub use reader::Reader;
+pub use states::States;

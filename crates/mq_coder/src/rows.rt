@@ -1,5 +1,5 @@
 ghost use Rattle.std.specs.Prelude.{◌<◌};
-ghost use Rattle.mq_coder.specs.Rows.{IsRow};
+ghost use Rattle.mq_coder.specs.Rows.{IsRow, IsStep};
 
 /// What Table C.2 says of a state: a row of it and the more probable symbol together.
 #[derive(Clone, Copy, Debug)]
@@ -122,4 +122,82 @@ pub(crate) fn row_of(state: u8) -> Row
     ensures { IsRow state result }
 {
     ROWS[state as usize]
+}
+
+/// What a bit does in a state, as Table C.2 says.
+#[derive(Clone, Copy, Debug)]
+pub(crate) struct Step {
+    /// The probability of the less probable symbol.
+    pub(crate) qe: u32,
+    /// Whether the bit is the more probable symbol.
+    pub(crate) is_mps: bool,
+    /// The state after it, where it changes.
+    pub(crate) next: u8,
+}
+
+/// Table C.2 by states and bits, two states a line: Qe in bits 0 to 15, the next state in bits 16 to 22, and bit 31
+/// where the bit is the more probable symbol. In one word, so that a decision looks once.
+#[rattlefmt::skip]
+static STEPS: [u32; 188] = [
+    0x8002_5601, 0x0003_5601, 0x0002_5601, 0x8003_5601,
+    0x8004_3401, 0x000c_3401, 0x000d_3401, 0x8005_3401,
+    0x8006_1801, 0x0012_1801, 0x0013_1801, 0x8007_1801,
+    0x8008_0ac1, 0x0018_0ac1, 0x0019_0ac1, 0x8009_0ac1,
+    0x800a_0521, 0x003a_0521, 0x003b_0521, 0x800b_0521,
+    0x804c_0221, 0x0042_0221, 0x0043_0221, 0x804d_0221,
+    0x800e_5601, 0x000d_5601, 0x000c_5601, 0x800f_5601,
+    0x8010_5401, 0x001c_5401, 0x001d_5401, 0x8011_5401,
+    0x8012_4801, 0x001c_4801, 0x001d_4801, 0x8013_4801,
+    0x8014_3801, 0x001c_3801, 0x001d_3801, 0x8015_3801,
+    0x8016_3001, 0x0022_3001, 0x0023_3001, 0x8017_3001,
+    0x8018_2401, 0x0024_2401, 0x0025_2401, 0x8019_2401,
+    0x801a_1c01, 0x0028_1c01, 0x0029_1c01, 0x801b_1c01,
+    0x803a_1601, 0x002a_1601, 0x002b_1601, 0x803b_1601,
+    0x801e_5601, 0x001d_5601, 0x001c_5601, 0x801f_5601,
+    0x8020_5401, 0x001c_5401, 0x001d_5401, 0x8021_5401,
+    0x8022_5101, 0x001e_5101, 0x001f_5101, 0x8023_5101,
+    0x8024_4801, 0x0020_4801, 0x0021_4801, 0x8025_4801,
+    0x8026_3801, 0x0022_3801, 0x0023_3801, 0x8027_3801,
+    0x8028_3401, 0x0024_3401, 0x0025_3401, 0x8029_3401,
+    0x802a_3001, 0x0026_3001, 0x0027_3001, 0x802b_3001,
+    0x802c_2801, 0x0026_2801, 0x0027_2801, 0x802d_2801,
+    0x802e_2401, 0x0028_2401, 0x0029_2401, 0x802f_2401,
+    0x8030_2201, 0x002a_2201, 0x002b_2201, 0x8031_2201,
+    0x8032_1c01, 0x002c_1c01, 0x002d_1c01, 0x8033_1c01,
+    0x8034_1801, 0x002e_1801, 0x002f_1801, 0x8035_1801,
+    0x8036_1601, 0x0030_1601, 0x0031_1601, 0x8037_1601,
+    0x8038_1401, 0x0032_1401, 0x0033_1401, 0x8039_1401,
+    0x803a_1201, 0x0034_1201, 0x0035_1201, 0x803b_1201,
+    0x803c_1101, 0x0036_1101, 0x0037_1101, 0x803d_1101,
+    0x803e_0ac1, 0x0038_0ac1, 0x0039_0ac1, 0x803f_0ac1,
+    0x8040_09c1, 0x003a_09c1, 0x003b_09c1, 0x8041_09c1,
+    0x8042_08a1, 0x003c_08a1, 0x003d_08a1, 0x8043_08a1,
+    0x8044_0521, 0x003e_0521, 0x003f_0521, 0x8045_0521,
+    0x8046_0441, 0x0040_0441, 0x0041_0441, 0x8047_0441,
+    0x8048_02a1, 0x0042_02a1, 0x0043_02a1, 0x8049_02a1,
+    0x804a_0221, 0x0044_0221, 0x0045_0221, 0x804b_0221,
+    0x804c_0141, 0x0046_0141, 0x0047_0141, 0x804d_0141,
+    0x804e_0111, 0x0048_0111, 0x0049_0111, 0x804f_0111,
+    0x8050_0085, 0x004a_0085, 0x004b_0085, 0x8051_0085,
+    0x8052_0049, 0x004c_0049, 0x004d_0049, 0x8053_0049,
+    0x8054_0025, 0x004e_0025, 0x004f_0025, 0x8055_0025,
+    0x8056_0015, 0x0050_0015, 0x0051_0015, 0x8057_0015,
+    0x8058_0009, 0x0052_0009, 0x0053_0009, 0x8059_0009,
+    0x805a_0005, 0x0054_0005, 0x0055_0005, 0x805b_0005,
+    0x805a_0001, 0x0056_0001, 0x0057_0001, 0x805b_0001,
+    0x805c_5601, 0x005c_5601, 0x005d_5601, 0x805d_5601,
+];
+
+/// The step of a bit, 0 or 1, in a state.
+pub(crate) fn step_of(state: u8, bit: u8) -> Step
+    requires state { state < 94 }
+    requires bit { bit < 2 }
+    ensures { IsStep state bit result }
+{
+    let step = STEPS[2 * usize::from(state) + usize::from(bit)];
+    Step {
+        qe: step & 0xffff,
+        is_mps: step >> 31 == 1,
+        next: (step >> 16 & 0x7f) as u8,
+    }
 }

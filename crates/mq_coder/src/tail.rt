@@ -5,7 +5,8 @@ ghost use Rattle.mq_coder.specs.Tails.{IsTail};
 ghost use Rattle.mq_coder.specs.Values.{flushed_value};
 
 use crate::interval::{Interval, next_byte, put};
-use mast_base::{Bytes, NoMemory};
+use crate::output::Output;
+use mast_base::NoMemory;
 
 /// What a flush makes of the last byte, and the two bytes that it puts behind it.
 #[derive(Clone, Copy, Debug)]
@@ -42,7 +43,7 @@ pub(crate) fn tail_of(last: u8, at: Interval) -> Tail
 }
 
 /// Puts the end of a flush behind the bytes.
-pub(crate) fn end_with(bytes: &mut Bytes, tail: Tail) -> Result<(), NoMemory>
+pub(crate) fn end_with(bytes: &mut Output, tail: Tail) -> Result<(), NoMemory>
     ensures { OnOk result
         (reverse bytes.new ≡ without_last_ff (tail.second ∷ tail.first ∷ with_last tail.last (reverse bytes.old))) }
 {

@@ -6,3 +6,4 @@ pub mod Decisions
 pub mod Flush
 pub mod Tracking
 pub mod ReadBack
+pub mod Lengths

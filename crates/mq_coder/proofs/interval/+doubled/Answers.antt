@@ -1,8 +1,9 @@
-use Rattle.std.proofs.Common.{◌%◌, ◌≡◌, ◌-◌, ◌*◌, ◌^◌, ◌<◌, reverse, sym, ap, subst, ◌∙◌, arith}
-use Rattle.codec_terms.specs.Mq.{behind, last_byte}
-use Rattle.mq_coder.specs.Bytes.{with_last, doublings}
+use Rattle.std.proofs.Common.{◌%◌, ◌≡◌, ◌-◌, ◌*◌, ◌^◌, ◌<◌, length, reverse, sym, ap, subst, ◌∙◌, arith}
+use Rattle.codec_terms.specs.Mq.{last_byte}
+use Rattle.mq_coder.specs.Bytes.{IsGrown, doublings}
 use Rattle.mq_laws.specs.Ready.{Valid}
-use Rattle.mq_coder.proofs.Doublings.{Over, regs-eq, quiet, over, rest-is, taken-back}
+use Rattle.mq_coder.proofs.Doublings.{Over, regs-eq, quiet, over, rest-is}
+use Rattle.mq_coder.proofs.Resume.{put-grown}
 use Rattle.mq_coder.proofs.interval.+doubled.Goals as goal
 
 pub returns-then-shift-at-clause-ok : goal.returns-then-shift-at-clause-ok
@@ -57,10 +58,16 @@ returns-in-Ok-clause-ok t c =
     c.next_byte-next.ensures.out c.in_ok-put.ensures.ok in
     o.rest ∙ ap (doublings (c.args.shift - ct)) rest ∙ c.in-Ok.ensures.ok
 
+pub restore-requires : goal.restore-requires
+restore-requires t c =
+    let grown : IsGrown c.args.bytes.now c.put.new.bytes =
+    put-grown c.args.bytes.now c.put.new.bytes c.next_byte-next.result.byte c.next_byte-next.result.last c.in_ok-put.ensures.ok in
+    omega (arith, c.len-len.ensures, grown.more, ap length c.in-Err.ensures.err)
+
 pub returns-in-Err-clause-err : goal.returns-in-Err-clause-err
 returns-in-Err-clause-err t c =
     let last : c.last_of-last.result ≡ last_byte (reverse c.args.bytes.now) =
     c.last_of-last.ensures ∙ ap (λ l. last_byte (reverse l)) c.as_slice.ensures in
-    taken-back c.last_of-last.result c.next_byte-next.result.byte c.next_byte-next.result.last
-    c.args.bytes.now c.put.new.bytes c.take_back.new.bytes last c.in_ok-put.ensures.ok
-    (c.take_back.ensures ∙ ap (λ l. with_last c.last_of-last.result (behind (reverse l))) c.in-Err.ensures.err)
+    c.restore.ensures c.args.bytes.now (sym c.len-len.ensures) (sym last)
+    (subst (IsGrown c.args.bytes.now) (sym c.in-Err.ensures.err)
+    (put-grown c.args.bytes.now c.put.new.bytes c.next_byte-next.result.byte c.next_byte-next.result.last c.in_ok-put.ensures.ok))

@@ -8,15 +8,17 @@ pub returns-clause-bytes : goal.returns-clause-bytes
 returns-clause-bytes c =
     let last : c.last_of.result ≡ last_byte (reverse c.self.inside.bytes) =
     c.last_of.ensures ∙ ap (λ l. last_byte (reverse l)) c.as_slice.ensures in
-    flushed-is c.args.self c.self.inside.at c.self.inside.bytes c.end_with.new.bytes (map state_of c.self.inside.states)
+    c.into_bytes.ensures
+    ∙ flushed-is c.args.self c.self.inside.at c.self.inside.bytes c.end_with.new.bytes (map state_of c.self.inside.states)
     c.last_of.result c.tail_of-tail.result c.self.view_is last c.tail_of-tail.ensures c.in_ok-end_with.ensures
 
 pub returns-clause-codeword : goal.returns-clause-codeword
 returns-clause-codeword c =
     let last : c.last_of.result ≡ last_byte (reverse c.self.inside.bytes) =
     c.last_of.ensures ∙ ap (λ l. last_byte (reverse l)) c.as_slice.ensures in
-    let whole : c.end_with.new.bytes ≡ flushed_bytes c.args.self =
-    flushed-is c.args.self c.self.inside.at c.self.inside.bytes c.end_with.new.bytes (map state_of c.self.inside.states)
+    let whole : c.into_bytes.result ≡ flushed_bytes c.args.self =
+    c.into_bytes.ensures
+    ∙ flushed-is c.args.self c.self.inside.at c.self.inside.bytes c.end_with.new.bytes (map state_of c.self.inside.states)
     c.last_of.result c.tail_of-tail.result c.self.view_is last c.tail_of-tail.ensures c.in_ok-end_with.ensures in
     λ ds p. whole ∙ codeword-is c.args.self ds p
 
@@ -24,7 +26,8 @@ pub returns-clause-read_back : goal.returns-clause-read_back
 returns-clause-read_back c =
     let last : c.last_of.result ≡ last_byte (reverse c.self.inside.bytes) =
     c.last_of.ensures ∙ ap (λ l. last_byte (reverse l)) c.as_slice.ensures in
-    let whole : c.end_with.new.bytes ≡ flushed_bytes c.args.self =
-    flushed-is c.args.self c.self.inside.at c.self.inside.bytes c.end_with.new.bytes (map state_of c.self.inside.states)
+    let whole : c.into_bytes.result ≡ flushed_bytes c.args.self =
+    c.into_bytes.ensures
+    ∙ flushed-is c.args.self c.self.inside.at c.self.inside.bytes c.end_with.new.bytes (map state_of c.self.inside.states)
     c.last_of.result c.tail_of-tail.result c.self.view_is last c.tail_of-tail.ensures c.in_ok-end_with.ensures in
-    λ ds p. codeword-read c.args.self c.end_with.new.bytes ds whole p
+    λ ds p. codeword-read c.args.self c.into_bytes.result ds whole p
