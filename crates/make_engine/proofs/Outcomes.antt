@@ -15,7 +15,7 @@ use Rattle.mast_world.specs.Count.{counted}
 use Rattle.make_engine.specs.Causes.{IsBadFrame, IsMissingFrame, ShowsFile}
 use Rattle.make_engine.specs.Engine.{HasCopied}
 use Rattle.make_engine.specs.Item.{item}
-use Rattle.make_engine.specs.Package.{codestream, frame_name, frames_size, picture_of, shown_of, value_of, values_of}
+use Rattle.make_engine.specs.Package.{codestream, codestream_name, frames_size, picture_of, shown_of, value_of, values_of}
 use Rattle.mast_world.specs.Content.{Files}
 use Rattle.make_engine.specs.declared.outcome.BadWhy.{BadWhy}
 use Rattle.make_engine.specs.declared.outcome.MakeEnd.{MakeEnd}
@@ -49,7 +49,7 @@ values_none files project (x ∷ cells) zero cell at none = (let same : x ≡ ce
 values_none files project (x ∷ cells) (suc f) cell at none =
     nothing (value_of files project x) (values_of files project cells) (λ v vs. v ∷ vs) (values_none files project cells f cell at none)
 
-hidden : (kind : AssetKind) (files : Files) (project : ProjectFacts) (asset index : ℕ) → codestream (limits_of project).frame (files (frame_name (asset_at project asset) index)) ≡ None → shown_of kind files project (asset_at project asset) index ≡ None
+hidden : (kind : AssetKind) (files : Files) (project : ProjectFacts) (asset index : ℕ) → codestream (limits_of project).frame (files (codestream_name (asset_at project asset) index)) ≡ None → shown_of kind files project (asset_at project asset) index ≡ None
 hidden J2c files project asset index none = none
 hidden Rgb48 files project asset index none = refl
 hidden Ppm files project asset index none = refl

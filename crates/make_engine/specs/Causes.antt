@@ -5,7 +5,7 @@ use Rattle.film_project.specs.Facts.{ProjectFacts, asset_at}
 use Rattle.film_timeline.specs.Timeline.{cells_of, IsFresh}
 use Rattle.film_timeline.specs.declared.cell.Cell.TheVariants.{Frame}
 use Rattle.mast_world.specs.declared.volume.FileId.{FileId}
-use Rattle.make_engine.specs.Package.{frame_name, values_of}
+use Rattle.make_engine.specs.Package.{codestream_name, values_of}
 use Rattle.mast_world.specs.Content.{Files}
 use Rattle.make_engine.specs.declared.outcome.BadWhy.{BadWhy}
 use Rattle.make_engine.specs.declared.outcome.BadWhy.TheVariants.{Limit}
@@ -16,7 +16,7 @@ pub record ShowsFile (tells : Type 0) (files : Files) (project : ProjectFacts) (
   pub index : ℕ
   pub cell : slice_get (cells_of project) f ≡ Some (Frame asset index)
   pub fresh : IsFresh (cells_of project) f
-  pub named : name ≡ frame_name (asset_at project asset) index
+  pub named : name ≡ codestream_name (asset_at project asset) index
   pub earlier : tells → IsSome (values_of files project (take f (cells_of project)))
 
 -- a fresh frame's file isn't there

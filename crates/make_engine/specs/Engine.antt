@@ -8,7 +8,7 @@ use Rattle.film_timeline.specs.declared.cell.Cell.{Cell}
 use Rattle.film_timeline.specs.declared.cell.Cell.TheVariants.{Frame}
 use Rattle.mast_world.specs.Count.{counted}
 use Rattle.make_engine.specs.Item.{item}
-use Rattle.make_engine.specs.Package.{codestream, frame_name, value_of, values_of}
+use Rattle.make_engine.specs.Package.{codestream, codestream_name, value_of, values_of}
 use Rattle.mast_world.specs.Content.{Files}
 use Rattle.make_engine.specs.declared.outcome.BadWhy.{BadWhy}
 use Rattle.make_engine.specs.declared.outcome.BadWhy.TheVariants.{Limit}
@@ -19,7 +19,7 @@ pub record IsInFile (project : ProjectFacts) (cell : Cell) (name : List ℕ) : T
   pub index : ℕ
   pub shown : cell ≡ Frame asset index
   pub ready : (asset_at project asset).kind ≡ J2c
-  pub named : name ≡ frame_name (asset_at project asset) index
+  pub named : name ≡ codestream_name (asset_at project asset) index
 
 -- the item of a file's codestream was made, and its bytes were counted
 pub record ReadsItem (limit : ℕ) (file : Option (List ℕ)) (bytes : List ℕ) (taken_before taken_now : ℕ) : Type 0 where

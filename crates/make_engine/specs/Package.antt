@@ -1,24 +1,21 @@
 -- The package of a project, frame by frame.
-use Rattle.std.specs.Prelude.{ℕ, ◌-◌, ◌==◌, ◌&&◌, Bool, true, false, codes, List, [], ◌∷◌, ◌++◌, length, sum_by, replicate, nat_le, if◌then◌else◌, Option, Some, None, option_map, option_and_then, unwrap_or}
-use Rattle.std.specs.Fmt.{decimal}
+use Rattle.std.specs.Prelude.{ℕ, ◌==◌, ◌&&◌, Bool, true, false, List, [], ◌∷◌, length, sum_by, nat_le, if◌then◌else◌, Option, Some, None, option_map, option_and_then, unwrap_or}
 use Rattle.std.specs.List.{flat_map, list_all}
 use Rattle.film_plan.specs.Plan.{limits_of}
 use Rattle.film_project.specs.Facts.{AssetFacts, ProjectFacts, asset_at}
 use Rattle.film_project.specs.declared.asset.AssetKind.{AssetKind}
 use Rattle.film_project.specs.declared.asset.AssetKind.TheVariants.{Rgb48, Ppm, J2c, Pcm24}
+use Rattle.frame_files.specs.Name.{frame_name}
+use Rattle.frame_files.specs.declared.name.FrameFormat.TheVariants as format
 use Rattle.film_timeline.specs.Timeline.{cells_of, fresh_cells}
 use Rattle.film_timeline.specs.declared.cell.Cell.{Cell}
 use Rattle.film_timeline.specs.declared.cell.Cell.TheVariants.{Black, Frame}
 use Rattle.mast_world.specs.Content.{Files}
 use Rattle.make_engine.specs.Item.{item}
 
--- a number in at least six digits
-abbrev pub six_digits : ℕ → List ℕ
-six_digits n = replicate (6 - length (decimal n)) 48 ++ decimal n
-
--- the file of a frame that lies ready in an asset's folder
-abbrev pub frame_name : AssetFacts → ℕ → List ℕ
-frame_name asset index = asset.file ++ codes "/" ++ six_digits index ++ codes ".j2c"
+-- the file of a codestream that lies ready in an asset's folder
+abbrev pub codestream_name : AssetFacts → ℕ → List ℕ
+codestream_name asset index = frame_name asset.file index format.J2c
 
 -- what may be shown of a file: a codestream within the limit
 abbrev pub codestream : ℕ → Option (List ℕ) → Option (List ℕ)
@@ -27,7 +24,7 @@ codestream limit (Some bytes) = if nat_le (length bytes) limit then Some bytes e
 
 -- the codestream that a cell shows; only ready codestreams are built yet
 abbrev pub shown_of : AssetKind → Files → ProjectFacts → AssetFacts → ℕ → Option (List ℕ)
-shown_of J2c files project asset index = codestream (limits_of project).frame (files (frame_name asset index))
+shown_of J2c files project asset index = codestream (limits_of project).frame (files (codestream_name asset index))
 shown_of Rgb48 files project asset index = None
 shown_of Ppm files project asset index = None
 shown_of Pcm24 files project asset index = None

@@ -132,5 +132,12 @@ pub(crate) fn take_item<S: Source>(
     let Some(name) = file_of(alloc, &plan.project, cells[frame as usize])? else {
         return Err(MakeEnd::Unbuilt);
     };
-    read_codestream(alloc, source, &name, frame, plan.limits.frame, room)
+    read_codestream(
+        alloc,
+        source,
+        name.as_slice(),
+        frame,
+        plan.limits.frame,
+        room,
+    )
 }

@@ -4,7 +4,6 @@
 mod engine;
 mod frame;
 mod item;
-mod name;
 mod outcome;
 mod ready;
 

@@ -5,10 +5,11 @@ ghost use Rattle.make_engine.specs.Package.{is_built, is_j2c, is_ready};
 ghost use Rattle.film_project.specs.Facts.{asset_at};
 ghost use Rattle.make_engine.specs.Engine.{IsInFile};
 
-use crate::name::frame_name;
 use film_plan::Plan;
 use film_project::{Asset, AssetKind, Project};
 use film_timeline::Cell;
+use frame_files::{FrameFormat, frame_name};
+use mast_base::Bytes;
 use std::alloc::{AllocError, Global};
 
 /// The asset at this place, if it is a folder of codestreams.
@@ -53,8 +54,8 @@ pub(crate) fn file_of(
     alloc: Global,
     project: &Project,
     cell: Cell,
-) -> Result<Option<Vec<u8>>, AllocError>
-    ensures file { IfOk result (λ file. IfSome file (λ name. IsInFile project.now cell name.items)) }
+) -> Result<Option<Bytes>, AllocError>
+    ensures file { IfOk result (λ file. IfSome file (λ name. IsInFile project.now cell name)) }
     ensures none { IfOk result (λ file. IfNone file (is_ready project.now cell ≡ false)) }
 {
     let Cell::Frame { asset, index } = cell else {
@@ -63,5 +64,6 @@ pub(crate) fn file_of(
     let Some(asset) = find_codestreams(project, asset) else {
         return Ok(None);
     };
-    Ok(Some(frame_name(alloc, asset, index)?))
+    let name = frame_name(alloc, asset.file.as_slice(), index, FrameFormat::J2c)?;
+    Ok(Some(name))
 }

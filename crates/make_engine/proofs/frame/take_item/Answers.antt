@@ -36,13 +36,13 @@ returns-clause-item g c = λ tells.
     let project = c.args.plan.now.project in
     let cells = c.as_slice-cells.result.now in
     let are = c.as_slice-cells.ensures ∙ c.args.plan.now.cells_are in
-    let name = c.deref.result.now in
+    let name = c.as_slice.result.now in
     let files = g.S.Source.file c.args.source.now in
     let most = c.args.plan.now.limits.frame in
     let before = g.S.Source.taken c.args.source.now in
     let now = g.S.Source.taken c.read_codestream.new.source in
     let room = c.read_codestream.new.room in
-    let file : IsInFile project (get_or cells c.args.frame Black) name = rw c.deref.ensures.value (rw c.in-Some.is at c.in_ok-name.ensures.file) in
+    let file : IsInFile project (get_or cells c.args.frame Black) name = rw c.as_slice.ensures (rw c.in-Some.is at c.in_ok-name.ensures.file) in
     IfOk-weaker c.read_codestream.result
     (λ n. ReadsItem most (files name) (take n room) before now)
     (λ n. TakesItem files project c.args.frame (take n room) before now)
@@ -56,9 +56,9 @@ returns-clause-missing g c = λ name was.
     let project = c.args.plan.now.project in
     let cells = c.as_slice-cells.result.now in
     let are = c.as_slice-cells.ensures ∙ c.args.plan.now.cells_are in
-    let here = c.deref.result.now in
+    let here = c.as_slice.result.now in
     let files = g.S.Source.file c.args.source.now in
-    let file : IsInFile project (get_or cells c.args.frame Black) here = rw c.deref.ensures.value (rw c.in-Some.is at c.in_ok-name.ensures.file) in
+    let file : IsInFile project (get_or cells c.args.frame Black) here = rw c.as_slice.ensures (rw c.in-Some.is at c.in_ok-name.ensures.file) in
     missing_frame g.S.Source.tells files project c.args.frame here name
     (shows_file g.S.Source.tells files project cells c.args.frame here c.is_repeat.result are
     (cell_there project cells c.args.frame are c.requires.frame) c.is_repeat.ensures c.if-is_repeat.false file c.requires.earlier)
@@ -69,10 +69,10 @@ returns-clause-bad g c = λ f why was.
     let project = c.args.plan.now.project in
     let cells = c.as_slice-cells.result.now in
     let are = c.as_slice-cells.ensures ∙ c.args.plan.now.cells_are in
-    let here = c.deref.result.now in
+    let here = c.as_slice.result.now in
     let files = g.S.Source.file c.args.source.now in
     let most = c.args.plan.now.limits.frame in
-    let file : IsInFile project (get_or cells c.args.frame Black) here = rw c.deref.ensures.value (rw c.in-Some.is at c.in_ok-name.ensures.file) in
+    let file : IsInFile project (get_or cells c.args.frame Black) here = rw c.as_slice.ensures (rw c.in-Some.is at c.in_ok-name.ensures.file) in
     bad_frame g.S.Source.tells files project c.args.frame f most why here
     (shows_file g.S.Source.tells files project cells c.args.frame here c.is_repeat.result are
     (cell_there project cells c.args.frame are c.requires.frame) c.is_repeat.ensures c.if-is_repeat.false file c.requires.earlier)
