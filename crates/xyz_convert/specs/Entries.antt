@@ -1,5 +1,5 @@
 -- What the tables hold.
-use Rattle.std.specs.Prelude.{◌≡◌, ℕ, ◌+◌, ◌-◌, ◌*◌, ◌/◌, ◌^◌, ◌<◌, max, nat_lt, if◌then◌else◌, List, length, map, slice_index}
+use Rattle.std.specs.Prelude.{◌≡◌, ℕ, ◌+◌, ◌-◌, ◌*◌, ◌/◌, ◌^◌, ◌<◌, ◌≤◌, max, nat_lt, if◌then◌else◌, List, length, map, slice_index}
 use Rattle.std.specs.List.{range_with_len}
 use Rattle.codec_terms.specs.Colour.{Weights, fraction, fifths, below_peak, code_value}
 
@@ -46,3 +46,8 @@ list_of value_at n = map value_at (range_with_len 0 n)
 pub record IsTable (value_at : ℕ → ℕ) (entries : ℕ) (table : List ℕ) : Type 0 where
   pub size : length table ≡ entries
   pub entry : (at : ℕ) → at < entries → slice_index table at ≡ value_at at
+
+-- a code value is that of a sum, or one below it
+pub record IsNear (sum y : ℕ) : Type 0 where
+  pub below : y ≤ code_of sum
+  pub near : code_of sum ≤ y + 1

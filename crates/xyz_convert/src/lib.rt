@@ -3,6 +3,11 @@
 
 mod entries;
 mod power;
+mod room;
+mod row;
 mod tables;
+mod weights;
+
+pub use room::RowRoom;
 
 pub use tables::Tables;
