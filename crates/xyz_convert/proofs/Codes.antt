@@ -1,16 +1,15 @@
 -- Code values of sums, by the least sums at which they rise.
-use Rattle.std.proofs.Common.{◌≡◌, ℕ, zero, suc, ◌+◌, ◌-◌, ◌*◌, ◌/◌, ◌^◌, ◌<◌, ◌≤◌, ◌⊎◌, Bool, true, refl, sym, ap, subst, ◌∙◌, arith, inl, inr, lit≤, List, length, get_or, map, leb, false}
-use Rattle.std.specs.Prelude.{max, ◌↔◌, IsTrue}
+use Rattle.std.proofs.Common.{◌≡◌, ℕ, zero, suc, ◌+◌, ◌-◌, ◌*◌, ◌/◌, ◌^◌, ◌<◌, ◌≤◌, ◌⊎◌, true, refl, subst, ◌∙◌, arith, inl, inr, lit≤, List, length, get_or, leb, false}
+use Rattle.std.specs.Prelude.{max, IsTrue}
 use Rattle.std.proofs.lemmas.Bool.{leb-true, leb-false, le-leb, cases_lt, cases_order, cond-true, cond-false, lt-ltb, le-ltb}
 use Rattle.std.proofs.lemmas.List.{get_or_default}
 use Rattle.std.proofs.lemmas.List.FromFn.{length-map-range_with_len, get_or-map-range_with_len}
-use Rattle.std.specs.List.{range_with_len}
 use Rattle.std.specs.List.Sorted.{IsPartitionPoint, IsPartitionedBy}
 use Rattle.std.proofs.lemmas.Nat.{mul-le}
 use Rattle.std.proofs.Math.Nat.{pow-le-pow_left}
-use Rattle.codec_terms.specs.Colour.{IsGreatest, has_fifth_power_within, is_code_within, greatest_from, fifth_root, fifths, fraction, below_peak, code_value}
+use Rattle.codec_terms.specs.Colour.{is_code_within, greatest_from, fifth_root, fifths, fraction, below_peak, code_value}
 use Rattle.codec_terms.proofs.ColourLaws.{codes_downward, code_value-greatest, fifth_root-greatest, fifth_root-mono, fifths-mono}
-use Rattle.xyz_convert.specs.Entries.{light_of, code_of, power_of, least_above, most_sum, entry_start, code_entries, list_of, IsTable}
+use Rattle.xyz_convert.specs.Entries.{light_of, code_of, power_of, least_above, most_sum, entry_start, list_of, IsTable}
 
 -- ---- the greatest light
 
@@ -182,10 +181,10 @@ pub code_of-point :
     (above : List ℕ) (sum r : ℕ) → IsTable least_above 4096 above → sum ≤ most_sum → r ≤ length above →
     IsPartitionPoint (λ y. leb y sum ≡ true) (λ y. leb y sum ≡ false) above r → r ≡ code_of sum
 code_of-point above sum r is most within point = elim (cases_order r (code_of sum)) [
-      | inl same ↦ same
-      | inr (inl less) ↦ absurd (too_low less)
-      | inr (inr more) ↦ absurd (too_high more)
-    ]
+  | inl same ↦ same
+  | inr (inl less) ↦ absurd (too_low less)
+  | inr (inr more) ↦ absurd (too_high more)
+]
   where
     too_low : r < code_of sum → ⊥
     too_low less =
@@ -214,6 +213,6 @@ entry_start-coarse at h = cond-false _ _ _ (le-ltb at (2 ^ 16) h)
 pub IsTable-list_of : (f : ℕ → ℕ) (n : ℕ) (xs : List ℕ) → xs ≡ list_of f n → IsTable f n xs
 unfolding list_of
 IsTable-list_of f n xs e = rw e (record {
-      size = length-map-range_with_len f 0 n;
-      entry = λ at inside. get_or-map-range_with_len f 0 n at at 0 inside (omega arith);
-    })
+  size = length-map-range_with_len f 0 n;
+  entry = λ at inside. get_or-map-range_with_len f 0 n at at 0 inside (omega arith);
+})

@@ -1,8 +1,8 @@
 -- A sum's code value, looked up by its entry.
-use Rattle.std.proofs.Common.{◌≡◌, ℕ, ◌+◌, ◌-◌, ◌*◌, ◌/◌, ◌^◌, ◌<◌, ◌≤◌, Bool, true, false, List, get_or, refl, sym, ap, subst, ◌∙◌, arith, leb, inl, inr}
+use Rattle.std.proofs.Common.{◌≡◌, ℕ, ◌+◌, ◌*◌, ◌/◌, ◌^◌, ◌<◌, ◌≤◌, List, get_or, ap, ◌∙◌, arith, leb, inl, inr}
 use Rattle.std.specs.Int.{from_bool}
 use Rattle.std.proofs.lemmas.Bool.{le-leb, lt-leb, cases_lt}
-use Rattle.xyz_convert.specs.Entries.{IsTable, code_entries, code_of, entry_code, entry_start, least_above, most_sum, IsNear}
+use Rattle.xyz_convert.specs.Entries.{IsTable, code_entries, code_of, entry_code, least_above, most_sum, IsNear}
 use Rattle.xyz_convert.proofs.Codes.{code_of-below, code_of-mono, code_of-near, entry_start-fine, entry_start-coarse, least_above-from, least_above-to}
 
 near-fine : (code : List ℕ) (sum : ℕ) → IsTable entry_code code_entries code → sum < 2 ^ 16 → get_or code sum 0 ≡ code_of sum

@@ -1,5 +1,5 @@
 -- Weights of the code, as the definitions have them.
-use Rattle.std.specs.Prelude.{ℕ, ◌+◌, ◌≤◌}
+use Rattle.std.specs.Prelude.{◌+◌, ◌≤◌}
 use Rattle.codec_terms.specs.Colour as colour
 use Rattle.xyz_convert.specs.declared.weights.Weights.{Weights}
 

@@ -8,6 +8,7 @@ const WHOLE: u64 = 0x100_0000;
 
 /// The luminance of the greatest code value and that of reference white, in units of 1/1000 cd/m².
 const PEAK: u64 = 52_370;
+
 const WHITE: u64 = 48_000;
 
 /// Sums below this have an entry each in the table of code values, the others one for each 256.

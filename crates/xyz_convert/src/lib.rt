@@ -3,11 +3,9 @@
 
 mod entries;
 mod power;
-mod room;
 mod row;
 mod tables;
 mod weights;
 
-pub use room::RowRoom;
-
+pub use row::to_xyz_row;
 pub use tables::Tables;

@@ -20,9 +20,9 @@ const ENTRIES: u32 = 0x1_0000 + 71_357 + 1;
 #[derive(Debug, Drop)]
 pub struct Tables {
     power: u8,
-    light: Vec<u32>,
-    above: Vec<u32>,
-    code: Vec<u16>,
+    pub(crate) light: Vec<u32>,
+    pub(crate) above: Vec<u32>,
+    pub(crate) code: Vec<u16>,
 }
 
 impl Model for Tables {
@@ -44,7 +44,9 @@ fn light_table(alloc: Global, power: u8, samples: u32) -> Result<Vec<u32>, Alloc
     requires samples { samples ≤ 2 ^ 16 }
     ensures { IfOk result (λ light. light.items ≡ list_of (light_of power) samples) }
 {
-    (0..samples).map(|sample| light_of(power, sample)).collect(alloc)
+    (0..samples)
+        .map(|sample| light_of(power, sample))
+        .collect(alloc)
 }
 
 #[tactic(auto, unfolding(crate::specs::Entries::list_of))]
@@ -61,7 +63,9 @@ fn code_table(alloc: Global, above: &[u32], entries: u32) -> Result<Vec<u16>, Al
     requires entries { entries ≤ code_entries }
     ensures { IfOk result (λ code. code.items ≡ list_of entry_code entries) }
 {
-    (0..entries).map(|at| code_of(above, entry_start(at))).collect(alloc)
+    (0..entries)
+        .map(|at| code_of(above, entry_start(at)))
+        .collect(alloc)
 }
 
 impl Tables {

@@ -37,7 +37,11 @@ pub(crate) fn sum_of(weights: Weights, red: u32, green: u32, blue: u32) -> u32
     ensures sum { result ≡ sum_of (weights_of weights) red green blue }
     ensures within { result ≤ most_sum }
 {
-    let high = weights.red * (red >> 12) + weights.green * (green >> 12) + weights.blue * (blue >> 12);
-    let low = weights.red * (red & 0xfff) + weights.green * (green & 0xfff) + weights.blue * (blue & 0xfff);
+    let high = weights.red * (red >> 12)
+        + weights.green * (green >> 12)
+        + weights.blue * (blue >> 12);
+    let low = weights.red * (red & 0xfff)
+        + weights.green * (green & 0xfff)
+        + weights.blue * (blue & 0xfff);
     high + (low >> 12) >> 4
 }

@@ -1,6 +1,6 @@
-use Rattle.std.proofs.Common.{leb, arith, rules}
+use Rattle.std.proofs.Common.{leb, rules}
 use Rattle.std.proofs.lemmas.List.Sorted.{IsPartitionPoint-from_clause}
-use Rattle.xyz_convert.proofs.Codes.{thresholds-partitioned, code_of-point, code_of-below}
+use Rattle.xyz_convert.proofs.Codes.{thresholds-partitioned, code_of-point}
 use Rattle.xyz_convert.proofs.entries.code_of.Goals as goal
 
 pub returns : goal.returns

@@ -1,4 +1,4 @@
-use Rattle.std.proofs.Common.{◌≡◌, ◌-◌, ◌*◌, ◌%◌, ◌^◌, ◌<◌, sym, ◌∙◌, arith, mod-eq_of_lt}
+use Rattle.std.proofs.Common.{◌-◌, ◌*◌, ◌^◌, ◌<◌, sym, ◌∙◌, arith, mod-eq_of_lt}
 use Rattle.xyz_convert.proofs.Codes.{entry_start-fine, entry_start-coarse}
 use Rattle.xyz_convert.proofs.entries.entry_start.Goals as goal
 

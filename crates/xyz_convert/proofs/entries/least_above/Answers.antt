@@ -1,4 +1,4 @@
-use Rattle.std.proofs.Common.{◌≡◌, ◌+◌, ◌*◌, ◌/◌, ◌^◌, ◌≤◌, ap, sym, subst, ◌∙◌, arith, max}
+use Rattle.std.proofs.Common.{◌≡◌, ◌+◌, ◌*◌, ◌/◌, ◌^◌, ap, ◌∙◌, arith, max}
 use Rattle.codec_terms.specs.Colour.{fifths}
 use Rattle.xyz_convert.specs.Entries.{least_above, power_of}
 use Rattle.xyz_convert.proofs.Codes.{power_of-small}

@@ -1,4 +1,4 @@
-use Rattle.std.proofs.Common.{◌≡◌, ◌*◌, ◌^◌, ◌<◌, sym, ap, subst, ◌∙◌, arith}
+use Rattle.std.proofs.Common.{◌≡◌, ◌^◌, ◌<◌, ap, ◌∙◌, arith}
 use Rattle.xyz_convert.proofs.Roots.{fifth-power, fifth-power-fits}
 use Rattle.xyz_convert.proofs.power.fifth_power.Goals as goal
 

@@ -1,4 +1,4 @@
-use Rattle.std.proofs.Common.{◌≡◌, ℕ, ◌+◌, ◌-◌, ◌*◌, ◌^◌, ◌%◌, ◌<◌, ◌≤◌, refl, sym, ap, subst, ◌∙◌, arith}
+use Rattle.std.proofs.Common.{◌≡◌, ◌+◌, ◌-◌, ◌*◌, ◌^◌, ◌%◌, refl, ap, arith}
 use Rattle.std.proofs.lemmas.Nat.{one_shl}
 use Rattle.xyz_convert.proofs.Roots.{searched-above, searched-below, searched-whole}
 use Rattle.xyz_convert.proofs.power.fifth_root.Goals as goal

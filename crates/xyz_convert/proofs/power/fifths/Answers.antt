@@ -1,4 +1,4 @@
-use Rattle.std.proofs.Common.{◌≡◌, ℕ, ◌+◌, ◌-◌, ◌*◌, ◌/◌, ◌^◌, ◌%◌, ◌<◌, ◌≤◌, refl, sym, ap, subst, ◌∙◌, arith}
+use Rattle.std.proofs.Common.{◌≡◌, ◌*◌, ◌/◌, ◌^◌, ◌%◌, refl, sym, ap, ◌∙◌, arith}
 use Rattle.codec_terms.specs.Colour.{fifth_root}
 use Rattle.xyz_convert.proofs.Roots.{radicand, radicand-11, radicand-12, radicand-13}
 use Rattle.xyz_convert.proofs.power.fifths.Goals as goal

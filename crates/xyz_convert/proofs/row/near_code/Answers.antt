@@ -1,5 +1,3 @@
-use Rattle.std.proofs.Common.{get_or}
-use Rattle.xyz_convert.specs.Entries.{IsNear}
 use Rattle.xyz_convert.proofs.Lookups.{is-fine, is-coarse}
 use Rattle.xyz_convert.proofs.row.near_code.Goals as goal
 use Rattle.xyz_convert.proofs.row.near_code.Goals.{then-sum-lt-FINE, else-sum-lt-FINE}

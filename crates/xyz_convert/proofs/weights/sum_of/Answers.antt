@@ -1,7 +1,6 @@
-use Rattle.std.proofs.Common.{subst, arith, ◌≤◌}
-use Rattle.xyz_convert.specs.Entries.{most_sum}
+use Rattle.std.proofs.Common.{arith}
 use Rattle.xyz_convert.specs.Weighing.{weights_of}
-use Rattle.xyz_convert.proofs.Sums.{halves, high-small, low-small, sum_of-halves, sum_of-small}
+use Rattle.xyz_convert.proofs.Sums.{low-small, sum_of-halves, sum_of-small}
 use Rattle.xyz_convert.proofs.weights.sum_of.Goals as goal
 
 pub overflow_add-low-2 : goal.overflow_add-low-2

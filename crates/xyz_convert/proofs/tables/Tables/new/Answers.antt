@@ -1,4 +1,4 @@
-use Rattle.std.proofs.Common.{◌^◌, sym, ◌∙◌}
+use Rattle.std.proofs.Common.{◌^◌, ◌∙◌}
 use Rattle.xyz_convert.specs.Entries.{light_of, least_above, entry_code, code_entries}
 use Rattle.xyz_convert.proofs.Codes.{IsTable-list_of}
 use Rattle.xyz_convert.proofs.tables.Tables.new.Goals as goal
