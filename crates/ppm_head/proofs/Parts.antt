@@ -1,8 +1,8 @@
 -- Gaps and tokens, byte by byte.
-use Rattle.std.proofs.Common.{◌≡◌, ℕ, suc, ◌+◌, ◌<◌, ◌≤◌, Bool, true, false, cond, List, [], ◌∷◌, length, take, drop, get_or, ◌&&◌, refl, sym, ap, ◌∙◌, arith}
-use Rattle.std.specs.Prelude.{Option, Some, None, Result, Ok, Err, if◌then◌else◌, ◌==◌, nat_eq}
+use Rattle.std.proofs.Common.{◌≡◌, ℕ, suc, ◌+◌, ◌<◌, ◌≤◌, Bool, true, false, cond, List, ◌∷◌, length, take, drop, get_or, ◌&&◌, refl, ap, ◌∙◌}
+use Rattle.std.specs.Prelude.{Some, None, Result, Ok, if◌then◌else◌, ◌==◌, nat_eq}
 use Rattle.std.specs.Option.{option_map_or}
-use Rattle.std.specs.List.{prefix_len, starts_with}
+use Rattle.std.specs.List.{starts_with}
 use Rattle.std.specs.Str.{bytes_eq}
 use Rattle.ppm_head.specs.declared.header.BadHeader.{BadHeader}
 use Rattle.std.proofs.lemmas.Bool.{cond-true, cond-false}

@@ -1,4 +1,4 @@
-use Rattle.std.proofs.Common.{sym, ◌∙◌, arith}
+use Rattle.std.proofs.Common.{sym, arith}
 use Rattle.ppm_head.proofs.Parts.{gap_len-more, gap_len-none, gap_len-past}
 use Rattle.ppm_head.proofs.tokens.gap_len.Goals as goal
 

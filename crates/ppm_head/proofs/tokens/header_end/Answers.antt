@@ -1,6 +1,6 @@
 use Rattle.std.proofs.Common.{◌≡◌, ◌∷◌, [], Err, ap, ◌∙◌, rules}
 use Rattle.std.specs.Prelude.{codes}
-use Rattle.ppm_head.specs.Header.{go_on, header_end, tokens_end, white_end}
+use Rattle.ppm_head.specs.Header.{go_on, header_end, tokens_end}
 use Rattle.ppm_head.proofs.tokens.header_end.Goals as goal
 
 pub returns-in_err-magic-clause-end : goal.returns-in_err-magic-clause-end
