@@ -31,3 +31,4 @@ compare() {
 }
 
 compare quantiser codec_terms quantiser
+compare colour mast_base xyz_convert

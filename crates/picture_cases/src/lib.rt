@@ -3,3 +3,7 @@
 
 #[cfg(test)]
 mod bands;
+#[cfg(test)]
+mod colour;
+#[cfg(test)]
+mod inputs;

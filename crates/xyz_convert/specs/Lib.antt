@@ -1,0 +1,4 @@
+pub mod Entries
+pub mod Samples
+pub mod Sound
+pub mod Weighing
