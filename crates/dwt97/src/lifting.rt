@@ -23,7 +23,9 @@ pub(crate) fn first(own: i32, before: i32, behind: i32) -> i32
     ensures { FitsLift w32 (step_factor 1) own before behind → result ≡ lifted_by (step_factor 1) own before behind }
 {
     let sum = before.wrapping_add(behind);
-    own.wrapping_add(part(27123, sum)).wrapping_sub(sum).wrapping_sub(sum)
+    own.wrapping_add(part(27123, sum))
+        .wrapping_sub(sum)
+        .wrapping_sub(sum)
 }
 
 #[inline(always)]

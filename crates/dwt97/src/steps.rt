@@ -1,5 +1,6 @@
-ghost use Rattle.std.specs.Prelude.{◌≡◌, ◌+◌, length, drop};
+ghost use Rattle.std.specs.Prelude.{◌≡◌, length};
 ghost use Rattle.std.specs.Int.{w32};
+ghost use Rattle.codec_terms.specs.Wavelet.{sample};
 ghost use Rattle.wave_laws.specs.Rows.{step_factor, lifted_row};
 ghost use Rattle.dwt97.specs.Lifting.{FitsLifts};
 
@@ -12,7 +13,7 @@ use crate::lifting::{first, fourth, second, third};
 pub fn first_step(row: &mut [i32], above: &[i32], below: &[i32])
     requires above { length above.now ≡ length row.old }
     requires below { length below.now ≡ length row.old }
-    ensures { FitsLifts w32 (step_factor 1) row.old above.now below.now
+    ensures { FitsLifts w32 (step_factor 1) row.old (sample above.now) (sample below.now)
         → row.new ≡ lifted_row (step_factor 1) row.old above.now below.now }
 {
     for x in 0..row.len() {
@@ -25,7 +26,7 @@ pub fn first_step(row: &mut [i32], above: &[i32], below: &[i32])
 pub fn second_step(row: &mut [i32], above: &[i32], below: &[i32])
     requires above { length above.now ≡ length row.old }
     requires below { length below.now ≡ length row.old }
-    ensures { FitsLifts w32 (step_factor 2) row.old above.now below.now
+    ensures { FitsLifts w32 (step_factor 2) row.old (sample above.now) (sample below.now)
         → row.new ≡ lifted_row (step_factor 2) row.old above.now below.now }
 {
     for x in 0..row.len() {
@@ -38,7 +39,7 @@ pub fn second_step(row: &mut [i32], above: &[i32], below: &[i32])
 pub fn third_step(row: &mut [i32], above: &[i32], below: &[i32])
     requires above { length above.now ≡ length row.old }
     requires below { length below.now ≡ length row.old }
-    ensures { FitsLifts w32 (step_factor 3) row.old above.now below.now
+    ensures { FitsLifts w32 (step_factor 3) row.old (sample above.now) (sample below.now)
         → row.new ≡ lifted_row (step_factor 3) row.old above.now below.now }
 {
     for x in 0..row.len() {
@@ -51,7 +52,7 @@ pub fn third_step(row: &mut [i32], above: &[i32], below: &[i32])
 pub fn fourth_step(row: &mut [i32], above: &[i32], below: &[i32])
     requires above { length above.now ≡ length row.old }
     requires below { length below.now ≡ length row.old }
-    ensures { FitsLifts w32 (step_factor 4) row.old above.now below.now
+    ensures { FitsLifts w32 (step_factor 4) row.old (sample above.now) (sample below.now)
         → row.new ≡ lifted_row (step_factor 4) row.old above.now below.now }
 {
     for x in 0..row.len() {

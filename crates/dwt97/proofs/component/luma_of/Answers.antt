@@ -10,5 +10,5 @@ as_stored v = to_z w32 (of_z w32 v)
 pub returns : goal.returns
 returns c =
     let two : as_stored (as_stored (as_stored c.level_shifted.result *ℤ pos 19595) +ℤ as_stored (as_stored c.level_shifted-2.result *ℤ pos 38470))
-        ≡ pos 19595 *ℤ shifted c.args.x +ℤ pos 38470 *ℤ shifted c.args.y = omega (arith, ints) in
+    ≡ pos 19595 *ℤ shifted c.args.x +ℤ pos 38470 *ℤ shifted c.args.y = omega (arith, ints) in
     eighth _ _ (omega (arith, ints)) (omega (arith, ints))

@@ -2,7 +2,7 @@ use Rattle.std.proofs.Common.{rules, arith}
 use Rattle.std.specs.Int.{w32}
 use Rattle.std.proofs.lemmas.Int.{to_z-of_z}
 use Rattle.wave_laws.specs.Rows.{step_factor}
-use Rattle.dwt97.proofs.Lifted.{IsLiftedTo-step, IsLiftedTo-all}
+use Rattle.dwt97.proofs.Lifted.{IsLiftedTo-step, lifted_row-all}
 use Rattle.dwt97.proofs.steps.first_step.Goals as goal
 
 pub loop-x-preserved : goal.loop-x-preserved
@@ -11,4 +11,4 @@ loop-x-preserved c =
     (to_z-of_z w32 _ (search rules)) (to_z-of_z w32 _ (search rules)) (to_z-of_z w32 _ (search rules)) c.first.ensures
 
 pub returns : goal.returns
-returns c = IsLiftedTo-all w32 (step_factor 1) _ _ _ _ _ (omega arith) (omega arith) c.loop-x.invariant
+returns c = lifted_row-all w32 (step_factor 1) _ _ _ _ _ (omega arith) (omega arith) c.loop-x.invariant
