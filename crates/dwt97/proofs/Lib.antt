@@ -5,3 +5,5 @@ pub mod Made
 pub mod Ranges
 pub mod Finished
 pub mod Components
+pub mod Products
+pub mod Places

@@ -23,7 +23,7 @@ pub IsShifted-int_shr : (z : ℤ) → IsShifted z (int_shr z 16)
 IsShifted-int_shr (pos n) = record { low = omega (arith, ints); high = omega (arith, ints) }
 IsShifted-int_shr (negsuc n) = record { low = omega (arith, ints); high = omega (arith, ints) }
 
-SFits-int_shr : (z : ℤ) → SFits w64 z → SFits w64 (int_shr z 16)
+pub SFits-int_shr : (z : ℤ) → SFits w64 z → SFits w64 (int_shr z 16)
 SFits-int_shr (pos n) fits = omega (arith, ints)
 SFits-int_shr (negsuc n) fits = omega (arith, ints)
 

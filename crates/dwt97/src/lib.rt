@@ -2,12 +2,15 @@
 #![tactic(auto)]
 
 mod across;
+mod across_wide;
 mod component;
 mod finish;
 mod halves;
 mod lifting;
+mod plane;
 mod scaling;
 mod steps;
+mod wide;
 
 pub use component::{chroma_blue_row, chroma_red_row, luma_row};
 pub use finish::{finish_high_row, finish_low_row};
