@@ -1,5 +1,5 @@
 -- Rows that are finished, from their even and odd samples.
-use Rattle.std.proofs.Common.{◌≡◌, ℕ, ◌≤◌, ap₂, arith, ◌∙◌, List, map, ℤ, pos, ◌*ℤ◌, unsigned_abs}
+use Rattle.std.proofs.Common.{◌≡◌, ℕ, ◌≤◌, ◌^◌, ◌<◌, ap₂, arith, ◌∙◌, List, map, ℤ, pos, ◌*ℤ◌, unsigned_abs}
 use Rattle.std.specs.Int.{w32}
 use Rattle.std.proofs.lemmas.Int.{ints}
 use Rattle.std.proofs.lemmas.List.Elements.{All-map, All-weaker}
@@ -11,9 +11,9 @@ use Rattle.dwt97.specs.Lifting.{FitsScaled, AreBounded}
 use Rattle.dwt97.proofs.Shifts.{IsShifted-int_shr}
 
 -- a row whose scaled samples can be lifted
-pub record IsReady (k : ℤ) (row : List ℤ) : Type 0 where
+pub record IsReady (b : ℕ) (k : ℤ) (row : List ℤ) : Type 0 where
   pub fits : FitsScaled w32 k row
-  pub bounded : AreBounded 150000000 (scaled_row k row)
+  pub bounded : AreBounded b (scaled_row k row)
 
 Bounded : ℕ → ℤ → Type 0
 Bounded m v = unsigned_abs v ≤ m
@@ -26,18 +26,18 @@ high_bound : (v : ℤ) → Bounded 120000000 v → Bounded 150000000 (scaled hig
 unfolding Bounded
 high_bound v h = let z = IsShifted-int_shr (pos 80621 *ℤ v) in omega (arith, ints)
 
-ready : (m : ℕ) (k : ℤ) (row : List ℤ) → ((v : ℤ) → Bounded m v → Bounded 150000000 (scaled k v)) → AreBounded m row → IsReady k row
+ready : (b m : ℕ) (k : ℤ) (row : List ℤ) → b < 2 ^ 31 → ((v : ℤ) → Bounded m v → Bounded b (scaled k v)) → AreBounded m row → IsReady b k row
 unfolding Bounded
-ready m k row bound each = record {
-  fits = λ x inside. let b = bound (sample row x) (each x (pos 0) inside) in omega (arith, ints);
-  bounded = All-map (Bounded 150000000) (scaled k) row (All-weaker (Bounded m) (λ v. Bounded 150000000 (scaled k v)) bound row each);
+ready b m k row small bound each = record {
+  fits = λ x inside. let h = bound (sample row x) (each x (pos 0) inside) in omega (arith, ints);
+  bounded = All-map (Bounded b) (scaled k) row (All-weaker (Bounded m) (λ v. Bounded b (scaled k v)) bound row each);
 }
 
-pub IsReady-low : (row : List ℤ) → AreBounded 130000000 row → IsReady low_factor row
-IsReady-low row each = ready 130000000 low_factor row low_bound each
+pub IsReady-low : (row : List ℤ) → AreBounded 130000000 row → IsReady 150000000 low_factor row
+IsReady-low row each = ready 150000000 130000000 low_factor row (omega arith) low_bound each
 
-pub IsReady-high : (row : List ℤ) → AreBounded 120000000 row → IsReady high_factor row
-IsReady-high row each = ready 120000000 high_factor row high_bound each
+pub IsReady-high : (row : List ℤ) → AreBounded 120000000 row → IsReady 150000000 high_factor row
+IsReady-high row each = ready 150000000 120000000 high_factor row (omega arith) high_bound each
 
 bounded_even : (m : ℕ) (line : List ℤ) → AreBounded m line → AreBounded m (even_samples line)
 bounded_even m line each = rw (even_samples-even_items line) (All-even_items (λ v. unsigned_abs v ≤ m) line each)
@@ -46,24 +46,38 @@ bounded_odd : (m : ℕ) (line : List ℤ) → AreBounded m line → AreBounded m
 bounded_odd m line each = rw (odd_samples-odd_items line) (All-odd_items (λ v. unsigned_abs v ≤ m) line each)
 
 -- what the steps across make of the samples that a row was taken apart into
-Makes : (List ℤ → List ℤ → List ℤ) → List ℤ → List ℤ → List ℤ → Type 0
-Makes f even odd new = AreBounded 150000000 even → AreBounded 150000000 odd → new ≡ map clamped (f even odd)
+Makes : ℕ → (List ℤ → List ℤ → List ℤ) → List ℤ → List ℤ → List ℤ → Type 0
+Makes b f even odd new = AreBounded b even → AreBounded b odd → new ≡ map clamped (f even odd)
 
-made : (f : List ℤ → List ℤ → List ℤ) (k : ℤ) (row even odd new : List ℤ) → IsReady k row → (FitsScaled w32 k row → even ≡ even_samples (scaled_row k row)) → (FitsScaled w32 k row → odd ≡ odd_samples (scaled_row k row))
-    → Makes f even odd new → new ≡ map clamped (f (even_samples (scaled_row k row)) (odd_samples (scaled_row k row)))
+made : (b : ℕ) (f : List ℤ → List ℤ → List ℤ) (k : ℤ) (row even odd new : List ℤ) → IsReady b k row → (FitsScaled w32 k row → even ≡ even_samples (scaled_row k row)) → (FitsScaled w32 k row → odd ≡ odd_samples (scaled_row k row))
+    → Makes b f even odd new → new ≡ map clamped (f (even_samples (scaled_row k row)) (odd_samples (scaled_row k row)))
 unfolding Makes
-made f k row even odd new ready p q is =
+made b f k row even odd new ready p q is =
     let e = p ready.fits in
     let o = q ready.fits in
-    is (rw e (bounded_even 150000000 (scaled_row k row) ready.bounded)) (rw o (bounded_odd 150000000 (scaled_row k row) ready.bounded))
+    is (rw e (bounded_even b (scaled_row k row) ready.bounded)) (rw o (bounded_odd b (scaled_row k row) ready.bounded))
     ∙ ap₂ (λ (a b : List ℤ). map clamped (f a b)) e o
 
-pub low_made : (k : ℤ) (row even odd new : List ℤ) → IsReady k row → (FitsScaled w32 k row → even ≡ even_samples (scaled_row k row)) → (FitsScaled w32 k row → odd ≡ odd_samples (scaled_row k row))
-    → (AreBounded 150000000 even → AreBounded 150000000 odd → new ≡ map clamped (low_samples even odd)) → new ≡ low_half (scaled_row k row)
+pub low_made : (b : ℕ) (k : ℤ) (row even odd new : List ℤ) → IsReady b k row → (FitsScaled w32 k row → even ≡ even_samples (scaled_row k row)) → (FitsScaled w32 k row → odd ≡ odd_samples (scaled_row k row))
+    → (AreBounded b even → AreBounded b odd → new ≡ map clamped (low_samples even odd)) → new ≡ low_half (scaled_row k row)
 unfolding low_half Makes
-low_made k row even odd new ready p q is = made low_samples k row even odd new ready p q is
+low_made b k row even odd new ready p q is = made b low_samples k row even odd new ready p q is
 
-pub high_made : (k : ℤ) (row even odd new : List ℤ) → IsReady k row → (FitsScaled w32 k row → even ≡ even_samples (scaled_row k row)) → (FitsScaled w32 k row → odd ≡ odd_samples (scaled_row k row))
-    → (AreBounded 150000000 even → AreBounded 150000000 odd → new ≡ map clamped (high_samples even odd)) → new ≡ high_half (scaled_row k row)
+pub high_made : (b : ℕ) (k : ℤ) (row even odd new : List ℤ) → IsReady b k row → (FitsScaled w32 k row → even ≡ even_samples (scaled_row k row)) → (FitsScaled w32 k row → odd ≡ odd_samples (scaled_row k row))
+    → (AreBounded b even → AreBounded b odd → new ≡ map clamped (high_samples even odd)) → new ≡ high_half (scaled_row k row)
 unfolding high_half Makes
-high_made k row even odd new ready p q is = made high_samples k row even odd new ready p q is
+high_made b k row even odd new ready p q is = made b high_samples k row even odd new ready p q is
+
+low_bound_wide : (v : ℤ) → Bounded 510000000 v → Bounded 600000000 (scaled low_factor v)
+unfolding Bounded
+low_bound_wide v h = let z = IsShifted-int_shr (pos 53274 *ℤ v) in omega (arith, ints)
+
+high_bound_wide : (v : ℤ) → Bounded 460000000 v → Bounded 600000000 (scaled high_factor v)
+unfolding Bounded
+high_bound_wide v h = let z = IsShifted-int_shr (pos 80621 *ℤ v) in omega (arith, ints)
+
+pub IsReady-low_wide : (row : List ℤ) → AreBounded 510000000 row → IsReady 600000000 low_factor row
+IsReady-low_wide row each = ready 600000000 510000000 low_factor row (omega arith) low_bound_wide each
+
+pub IsReady-high_wide : (row : List ℤ) → AreBounded 460000000 row → IsReady 600000000 high_factor row
+IsReady-high_wide row each = ready 600000000 460000000 high_factor row (omega arith) high_bound_wide each

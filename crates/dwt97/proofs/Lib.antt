@@ -7,3 +7,4 @@ pub mod Finished
 pub mod Components
 pub mod Products
 pub mod Places
+pub mod Sweep
