@@ -1,0 +1,5 @@
+//! Tests of the picture's stages.
+#![tactic(auto)]
+
+#[cfg(test)]
+mod wave;
