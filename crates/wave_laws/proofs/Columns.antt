@@ -34,7 +34,7 @@ get_or-columns_of {A} d columns x (row ∷ grid) wide each =
     get_or-in_front d row (columns_of grid) x (omega arith)
     ∙ ap (λ (others : List A). get_or row x d ∷ others) (get_or-columns_of d columns x grid wide (All-tail (λ (line : List A). length line ≡ columns) row grid each))
 
-as_grid : {A : Type 0} (columns : ℕ) (grid : List (List A)) → HasColumns columns grid → IsGridOf (λ (v : A). ⊤) columns (length grid) grid
+pub as_grid : {A : Type 0} (columns : ℕ) (grid : List (List A)) → HasColumns columns grid → IsGridOf (λ (v : A). ⊤) columns (length grid) grid
 as_grid {A} columns grid each = record {
   size = refl;
   each = All-weaker (λ (row : List A). length row ≡ columns) (IsRowOf (λ (v : A). ⊤) columns) (λ row size. record { size = size; each = All-each (λ (v : A). ⊤) (λ v. tt) row }) grid each;
@@ -119,7 +119,7 @@ column_at-lifted_rows k parity columns x rows wide each =
     map-stepped (λ row. sample row x) (lifted_row k) (lifted_by k) [] parity rows
     (λ i above below inside. sample-lifted_row k (row_at rows i) above below x (omega (arith, each i [] inside)))
 
-column_at-four : (columns x : ℕ) (rows : List (List ℤ)) → x < columns → HasColumns columns rows
+pub column_at-four : (columns x : ℕ) (rows : List (List ℤ)) → x < columns → HasColumns columns rows
     → column_at (pos 0) x (row_steps 4 rows) ≡ four_steps (column_at (pos 0) x rows)
 unfolding row_steps
 column_at-four columns x rows wide each =

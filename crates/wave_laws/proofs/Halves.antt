@@ -1,10 +1,10 @@
 -- A line's five steps, by its even and its odd samples.
-use Rattle.std.proofs.Common.{◌≡◌, ℕ, ◌-◌, ◌/◌, ◌≤◌, refl, sym, ap, ap₂, ◌∙◌, List, [], ◌∷◌, ◌++◌, length, map, ℤ, pos}
+use Rattle.std.proofs.Common.{◌≡◌, ℕ, ◌+◌, ◌*◌, ◌-◌, ◌/◌, ◌≤◌, refl, sym, ap, ap₂, subst, ◌∙◌, List, [], ◌∷◌, ◌++◌, length, map, All, ℤ, pos}
 use Rattle.std.proofs.lemmas.List.{length-map, map-append}
 use Rattle.std.proofs.lemmas.List.FromFn.{length-map-range_with_len}
-use Rattle.codec_terms.specs.Wavelet.{lifted, four_steps, even_samples, odd_samples, transformed_line, scaled, clamped}
+use Rattle.codec_terms.specs.Wavelet.{sample, lifted, four_steps, even_samples, odd_samples, transformed_line, scaled, clamped}
 use Rattle.wave_laws.specs.Rows.{step_factor, low_factor, high_factor, lifted_by, even_items, odd_items, lifted_odd, lifted_even, odd_once, even_once, odd_twice, even_twice, low_samples, high_samples, finished_row, low_half, high_half}
-use Rattle.wave_laws.proofs.Steps.{stepped, length-stepped, length-even_items, length-odd_items, odd_items-kept, even_items-kept, odd_items-stepped, even_items-stepped}
+use Rattle.wave_laws.proofs.Steps.{stepped, length-stepped, length-even_items, length-odd_items, get_or-even_items, get_or-odd_items, All-even_items, All-odd_items, odd_items-kept, even_items-kept, odd_items-stepped, even_items-stepped}
 
 pub even_samples-even_items : (line : List ℤ) → even_samples line ≡ even_items line
 unfolding even_samples even_items
@@ -26,7 +26,7 @@ pub length-lifted : (k : ℤ) (parity : ℕ) (line : List ℤ) → length (lifte
 length-lifted k parity line = rw (lifted-stepped k parity line) (length-stepped (lifted_by k) (pos 0) parity line)
 
 -- a line has these even samples and these odd ones
-record Halves (even odd line : List ℤ) : Type 0 where
+pub record Halves (even odd line : List ℤ) : Type 0 where
   pub two : 2 ≤ length line
   pub even_are : even_samples line ≡ even
   pub odd_are : odd_samples line ≡ odd
@@ -51,7 +51,7 @@ even_step k even odd line h =
       odd_are = odd_samples-odd_items (lifted k 0 line) ∙ (ap odd_items here ∙ (odd_items-kept (lifted_by k) (pos 0) line ∙ (sym (odd_samples-odd_items line) ∙ h.odd_are)));
     }
 
-four : (line : List ℤ) → 2 ≤ length line → Halves (even_twice (even_samples line) (odd_samples line)) (odd_twice (even_samples line) (odd_samples line)) (four_steps line)
+pub four : (line : List ℤ) → 2 ≤ length line → Halves (even_twice (even_samples line) (odd_samples line)) (odd_twice (even_samples line) (odd_samples line)) (four_steps line)
 four line two =
     let even = even_samples line in
     let odd = odd_samples line in
@@ -103,3 +103,23 @@ unfolding high_half
 length-high_half row =
     length-map (high_samples (even_samples row) (odd_samples row)) clamped
     ∙ (length-high_samples (even_samples row) (odd_samples row) ∙ (ap length (odd_samples-odd_items row) ∙ length-odd_items row))
+
+-- ---- the even and the odd samples of a line
+
+pub length-even_samples : (line : List ℤ) → length (even_samples line) ≡ length line - length line / 2
+length-even_samples line = ap length (even_samples-even_items line) ∙ length-even_items line
+
+pub length-odd_samples : (line : List ℤ) → length (odd_samples line) ≡ length line / 2
+length-odd_samples line = ap length (odd_samples-odd_items line) ∙ length-odd_items line
+
+pub sample-even_samples : (line : List ℤ) (i : ℕ) → sample (even_samples line) i ≡ sample line (2 * i)
+sample-even_samples line i = ap (λ (half : List ℤ). sample half i) (even_samples-even_items line) ∙ get_or-even_items line i (2 * i) (pos 0) refl
+
+pub sample-odd_samples : (line : List ℤ) (i : ℕ) → sample (odd_samples line) i ≡ sample line (2 * i + 1)
+sample-odd_samples line i = ap (λ (half : List ℤ). sample half i) (odd_samples-odd_items line) ∙ get_or-odd_items line i (2 * i + 1) (pos 0) refl
+
+pub All-even_samples : (P : ℤ → Type 0) (line : List ℤ) → All P line → All P (even_samples line)
+All-even_samples P line each = subst (All P) (sym (even_samples-even_items line)) (All-even_items P line each)
+
+pub All-odd_samples : (P : ℤ → Type 0) (line : List ℤ) → All P line → All P (odd_samples line)
+All-odd_samples P line each = subst (All P) (sym (odd_samples-odd_items line)) (All-odd_items P line each)

@@ -1,4 +1,12 @@
+pub mod Areas
+pub mod Bounds
 pub mod Columns
+pub mod Components
 pub mod Halves
+pub mod LineBounds
+pub mod Parts
 pub mod Rounds
+pub mod RowBounds
 pub mod Steps
+pub mod SubBands
+pub mod Taps

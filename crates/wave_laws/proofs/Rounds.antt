@@ -1,5 +1,5 @@
 -- What each row is after each step, from its neighbours.
-use Rattle.std.proofs.Common.{◌≡◌, ℕ, zero, suc, ◌+◌, ◌*◌, ◌%◌, ◌<◌, refl, sym, ap, ◌∙◌, arith, List, [], ◌++◌, length, ℤ}
+use Rattle.std.proofs.Common.{◌≡◌, ℕ, zero, suc, ◌+◌, ◌*◌, ◌%◌, ◌<◌, ◌≤◌, refl, sym, ap, ap₂, ◌∙◌, arith, List, [], ◌++◌, length, ℤ}
 use Rattle.std.proofs.lemmas.List.{length-append, get_or-map, get_or_append_left, get_or-append-add}
 use Rattle.std.proofs.lemmas.Bool.{cases_eq}
 use Rattle.std.proofs.Math.ListN.{get_or-map as get_or-map_any}
@@ -7,7 +7,7 @@ use Rattle.std.proofs.Math.Logic.{⊎_elim}
 use Rattle.codec_terms.specs.declared.picture.BandKind.TheVariants.{LL, HL, LH, HH}
 use Rattle.codec_terms.specs.Wavelet.{place_before, place_behind, even_samples, odd_samples, level, low_count}
 use Rattle.wave_laws.specs.Rows.{HasColumns, step_factor, low_factor, high_factor, lifted_row, scaled_row, row_at, row_steps, row_after, even_items, odd_items, low_rows, high_rows, columns_transformed, finished_row, low_half, high_half, quadrant, low_samples, high_samples, lifted_odd, lifted_even}
-use Rattle.wave_laws.proofs.Steps.{get_or-stepped, get_or-kept, get_or-even_items, get_or-odd_items, place_behind-inside}
+use Rattle.wave_laws.proofs.Steps.{get_or-stepped, get_or-kept, get_or-even_items, get_or-odd_items, place_before-suc, place_behind-inside, place_behind-last}
 use Rattle.wave_laws.proofs.Columns.{lifted_rows-stepped, length-row_steps, length-low_rows, length-high_rows, level-rows}
 
 -- ---- a step
@@ -136,3 +136,81 @@ row_at-LH rows y = get_or-map_any low_half (high_rows rows) y [] ∙ ap low_half
 pub row_at-HH : (rows : List (List ℤ)) (y : ℕ) → row_at (quadrant HH rows) y ≡ high_half (scaled_row high_factor (row_after 4 rows (2 * y + 1)))
 unfolding quadrant high_half high_samples lifted_odd odd_samples
 row_at-HH rows y = get_or-map_any high_half (high_rows rows) y [] ∙ ap high_half (row_at-high_rows rows y)
+
+-- ---- each step with its neighbours written out
+
+neighbours : (k : ℤ) (after own : List ℤ) (f : ℕ → List ℤ) (i j a b : ℕ) → after ≡ lifted_row k own (f i) (f j) → i ≡ a → j ≡ b → after ≡ lifted_row k own (f a) (f b)
+neighbours k after own f i j a b e p q = e ∙ ap₂ (λ (x y : ℕ). lifted_row k own (f x) (f y)) p q
+
+-- where the row above and the row below an odd one are
+odd_above : (j : ℕ) → place_before (2 * j + 1) ≡ 2 * j
+odd_above j = place_before-suc (2 * j + 1) (2 * j) (omega arith)
+
+odd_below : (n j : ℕ) → 2 * j + 2 < n → place_behind n (2 * j + 1) ≡ 2 * j + 2
+odd_below n j inside = place_behind-inside n (2 * j + 1) (omega arith) ∙ omega arith
+
+odd_last : (n j : ℕ) → n ≡ 2 * j + 2 → place_behind n (2 * j + 1) ≡ 2 * j
+odd_last n j last = place_behind-last n (2 * j + 1) (omega arith) ∙ omega arith
+
+-- and those of an even one
+even_above : (j : ℕ) → place_before (2 * j + 2) ≡ 2 * j + 1
+even_above j = place_before-suc (2 * j + 2) (2 * j + 1) (omega arith)
+
+even_below : (n j : ℕ) → 2 * j + 3 < n → place_behind n (2 * j + 2) ≡ 2 * j + 3
+even_below n j inside = place_behind-inside n (2 * j + 2) (omega arith) ∙ omega arith
+
+even_last : (n j : ℕ) → n ≡ 2 * j + 3 → place_behind n (2 * j + 2) ≡ 2 * j + 1
+even_last n j last = place_behind-last n (2 * j + 2) (omega arith) ∙ omega arith
+
+top_below : (n : ℕ) → 2 ≤ n → place_behind n 0 ≡ 1
+top_below n two = place_behind-inside n 0 (omega arith)
+
+pub first_inner : (rows : List (List ℤ)) (j : ℕ) → 2 * j + 2 < length rows
+    → row_after 1 rows (2 * j + 1) ≡ lifted_row (step_factor 1) (row_at rows (2 * j + 1)) (row_at rows (2 * j)) (row_at rows (2 * j + 2))
+first_inner rows j inside =
+    neighbours (step_factor 1) _ _ (row_at rows) _ _ _ _ (row_after-first rows (2 * j + 1) (omega arith) (omega arith)) (odd_above j) (odd_below (length rows) j inside)
+
+pub first_last : (rows : List (List ℤ)) (j : ℕ) → length rows ≡ 2 * j + 2
+    → row_after 1 rows (2 * j + 1) ≡ lifted_row (step_factor 1) (row_at rows (2 * j + 1)) (row_at rows (2 * j)) (row_at rows (2 * j))
+first_last rows j last =
+    neighbours (step_factor 1) _ _ (row_at rows) _ _ _ _ (row_after-first rows (2 * j + 1) (omega arith) (omega arith)) (odd_above j) (odd_last (length rows) j last)
+
+pub second_top : (rows : List (List ℤ)) → 2 ≤ length rows
+    → row_after 2 rows 0 ≡ lifted_row (step_factor 2) (row_at rows 0) (row_after 1 rows 1) (row_after 1 rows 1)
+second_top rows two =
+    neighbours (step_factor 2) _ _ (row_after 1 rows) _ _ _ _ (row_after-second rows 0 (omega arith) (omega arith)) refl (top_below (length rows) two)
+
+pub second_inner : (rows : List (List ℤ)) (j : ℕ) → 2 * j + 3 < length rows
+    → row_after 2 rows (2 * j + 2) ≡ lifted_row (step_factor 2) (row_at rows (2 * j + 2)) (row_after 1 rows (2 * j + 1)) (row_after 1 rows (2 * j + 3))
+second_inner rows j inside =
+    neighbours (step_factor 2) _ _ (row_after 1 rows) _ _ _ _ (row_after-second rows (2 * j + 2) (omega arith) (omega arith)) (even_above j) (even_below (length rows) j inside)
+
+pub second_last : (rows : List (List ℤ)) (j : ℕ) → length rows ≡ 2 * j + 3
+    → row_after 2 rows (2 * j + 2) ≡ lifted_row (step_factor 2) (row_at rows (2 * j + 2)) (row_after 1 rows (2 * j + 1)) (row_after 1 rows (2 * j + 1))
+second_last rows j last =
+    neighbours (step_factor 2) _ _ (row_after 1 rows) _ _ _ _ (row_after-second rows (2 * j + 2) (omega arith) (omega arith)) (even_above j) (even_last (length rows) j last)
+
+pub third_inner : (rows : List (List ℤ)) (j : ℕ) → 2 * j + 2 < length rows
+    → row_after 3 rows (2 * j + 1) ≡ lifted_row (step_factor 3) (row_after 1 rows (2 * j + 1)) (row_after 2 rows (2 * j)) (row_after 2 rows (2 * j + 2))
+third_inner rows j inside =
+    neighbours (step_factor 3) _ _ (row_after 2 rows) _ _ _ _ (row_after-third rows (2 * j + 1) (omega arith) (omega arith)) (odd_above j) (odd_below (length rows) j inside)
+
+pub third_last : (rows : List (List ℤ)) (j : ℕ) → length rows ≡ 2 * j + 2
+    → row_after 3 rows (2 * j + 1) ≡ lifted_row (step_factor 3) (row_after 1 rows (2 * j + 1)) (row_after 2 rows (2 * j)) (row_after 2 rows (2 * j))
+third_last rows j last =
+    neighbours (step_factor 3) _ _ (row_after 2 rows) _ _ _ _ (row_after-third rows (2 * j + 1) (omega arith) (omega arith)) (odd_above j) (odd_last (length rows) j last)
+
+pub fourth_top : (rows : List (List ℤ)) → 2 ≤ length rows
+    → row_after 4 rows 0 ≡ lifted_row (step_factor 4) (row_after 2 rows 0) (row_after 3 rows 1) (row_after 3 rows 1)
+fourth_top rows two =
+    neighbours (step_factor 4) _ _ (row_after 3 rows) _ _ _ _ (row_after-fourth rows 0 (omega arith) (omega arith)) refl (top_below (length rows) two)
+
+pub fourth_inner : (rows : List (List ℤ)) (j : ℕ) → 2 * j + 3 < length rows
+    → row_after 4 rows (2 * j + 2) ≡ lifted_row (step_factor 4) (row_after 2 rows (2 * j + 2)) (row_after 3 rows (2 * j + 1)) (row_after 3 rows (2 * j + 3))
+fourth_inner rows j inside =
+    neighbours (step_factor 4) _ _ (row_after 3 rows) _ _ _ _ (row_after-fourth rows (2 * j + 2) (omega arith) (omega arith)) (even_above j) (even_below (length rows) j inside)
+
+pub fourth_last : (rows : List (List ℤ)) (j : ℕ) → length rows ≡ 2 * j + 3
+    → row_after 4 rows (2 * j + 2) ≡ lifted_row (step_factor 4) (row_after 2 rows (2 * j + 2)) (row_after 3 rows (2 * j + 1)) (row_after 3 rows (2 * j + 1))
+fourth_last rows j last =
+    neighbours (step_factor 4) _ _ (row_after 3 rows) _ _ _ _ (row_after-fourth rows (2 * j + 2) (omega arith) (omega arith)) (even_above j) (even_last (length rows) j last)
