@@ -18,11 +18,11 @@ pub record IsReady (b : ℕ) (k : ℤ) (row : List ℤ) : Type 0 where
 Bounded : ℕ → ℤ → Type 0
 Bounded m v = unsigned_abs v ≤ m
 
-low_bound : (v : ℤ) → Bounded 130000000 v → Bounded 150000000 (scaled low_factor v)
+low_bound : (v : ℤ) → Bounded 300000000 v → Bounded 250000000 (scaled low_factor v)
 unfolding Bounded
 low_bound v h = let z = IsShifted-int_shr (pos 53274 *ℤ v) in omega (arith, ints)
 
-high_bound : (v : ℤ) → Bounded 120000000 v → Bounded 150000000 (scaled high_factor v)
+high_bound : (v : ℤ) → Bounded 200000000 v → Bounded 250000000 (scaled high_factor v)
 unfolding Bounded
 high_bound v h = let z = IsShifted-int_shr (pos 80621 *ℤ v) in omega (arith, ints)
 
@@ -33,11 +33,11 @@ ready b m k row small bound each = record {
   bounded = All-map (Bounded b) (scaled k) row (All-weaker (Bounded m) (λ v. Bounded b (scaled k v)) bound row each);
 }
 
-pub IsReady-low : (row : List ℤ) → AreBounded 130000000 row → IsReady 150000000 low_factor row
-IsReady-low row each = ready 150000000 130000000 low_factor row (omega arith) low_bound each
+pub IsReady-low : (row : List ℤ) → AreBounded 300000000 row → IsReady 250000000 low_factor row
+IsReady-low row each = ready 250000000 300000000 low_factor row (omega arith) low_bound each
 
-pub IsReady-high : (row : List ℤ) → AreBounded 120000000 row → IsReady 150000000 high_factor row
-IsReady-high row each = ready 150000000 120000000 high_factor row (omega arith) high_bound each
+pub IsReady-high : (row : List ℤ) → AreBounded 200000000 row → IsReady 250000000 high_factor row
+IsReady-high row each = ready 250000000 200000000 high_factor row (omega arith) high_bound each
 
 bounded_even : (m : ℕ) (line : List ℤ) → AreBounded m line → AreBounded m (even_samples line)
 bounded_even m line each = rw (even_samples-even_items line) (All-even_items (λ v. unsigned_abs v ≤ m) line each)
@@ -67,17 +67,3 @@ pub high_made : (b : ℕ) (k : ℤ) (row even odd new : List ℤ) → IsReady b 
     → (AreBounded b even → AreBounded b odd → new ≡ map clamped (high_samples even odd)) → new ≡ high_half (scaled_row k row)
 unfolding high_half Makes
 high_made b k row even odd new ready p q is = made b high_samples k row even odd new ready p q is
-
-low_bound_wide : (v : ℤ) → Bounded 510000000 v → Bounded 600000000 (scaled low_factor v)
-unfolding Bounded
-low_bound_wide v h = let z = IsShifted-int_shr (pos 53274 *ℤ v) in omega (arith, ints)
-
-high_bound_wide : (v : ℤ) → Bounded 460000000 v → Bounded 600000000 (scaled high_factor v)
-unfolding Bounded
-high_bound_wide v h = let z = IsShifted-int_shr (pos 80621 *ℤ v) in omega (arith, ints)
-
-pub IsReady-low_wide : (row : List ℤ) → AreBounded 510000000 row → IsReady 600000000 low_factor row
-IsReady-low_wide row each = ready 600000000 510000000 low_factor row (omega arith) low_bound_wide each
-
-pub IsReady-high_wide : (row : List ℤ) → AreBounded 460000000 row → IsReady 600000000 high_factor row
-IsReady-high_wide row each = ready 600000000 460000000 high_factor row (omega arith) high_bound_wide each

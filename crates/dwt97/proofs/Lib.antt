@@ -5,6 +5,6 @@ pub mod Made
 pub mod Ranges
 pub mod Finished
 pub mod Components
-pub mod Products
 pub mod Places
 pub mod Sweep
+pub mod Room

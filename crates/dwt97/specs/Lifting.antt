@@ -18,10 +18,6 @@ FitsLifts w k own before behind = (x : ℕ) → x < length own → FitsLift w k 
 abbrev pub FitsScaled : Width → ℤ → List ℤ → Type 0
 FitsScaled w k own = (x : ℕ) → x < length own → FitsSigned w (scaled k (sample own x))
 
--- each product fits 64 bits
-abbrev pub FitsProducts : ℤ → List ℤ → Type 0
-FitsProducts k own = (x : ℕ) → x < length own → FitsSigned w64 (k *ℤ sample own x)
-
 -- each sample's magnitude is at most m
 abbrev pub AreBounded : ℕ → List ℤ → Type 0
 AreBounded m line = All (λ v. unsigned_abs v ≤ m) line

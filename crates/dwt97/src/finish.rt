@@ -11,9 +11,9 @@ fn across(even: &mut [i32], odd: &mut [i32])
     requires some { 0 < length odd.old }
     requires least { length odd.old ≤ length even.old }
     requires most { length even.old ≤ length odd.old + 1 }
-    ensures low { AreBounded 150000000 even.old → AreBounded 150000000 odd.old
+    ensures low { AreBounded 250000000 even.old → AreBounded 250000000 odd.old
         → even.new ≡ map clamped (low_samples even.old odd.old) }
-    ensures high { AreBounded 150000000 even.old → AreBounded 150000000 odd.old
+    ensures high { AreBounded 250000000 even.old → AreBounded 250000000 odd.old
         → odd.new ≡ map clamped (high_samples even.old odd.old) }
 {
     first_across(odd, even);
@@ -30,8 +30,8 @@ pub fn finish_low_row(row: &[i32], low: &mut [i32], high: &mut [i32])
     requires some { 0 < length high.old }
     requires least { length high.old ≤ length low.old }
     requires most { length low.old ≤ length high.old + 1 }
-    ensures low { AreBounded 130000000 row.now → low.new ≡ low_half (scaled_row low_factor row.now) }
-    ensures high { AreBounded 130000000 row.now → high.new ≡ high_half (scaled_row low_factor row.now) }
+    ensures low { AreBounded 300000000 row.now → low.new ≡ low_half (scaled_row low_factor row.now) }
+    ensures high { AreBounded 300000000 row.now → high.new ≡ high_half (scaled_row low_factor row.now) }
 {
     take_low_row(row, low, high);
     across(low, high);
@@ -43,8 +43,8 @@ pub fn finish_high_row(row: &[i32], low: &mut [i32], high: &mut [i32])
     requires some { 0 < length high.old }
     requires least { length high.old ≤ length low.old }
     requires most { length low.old ≤ length high.old + 1 }
-    ensures low { AreBounded 120000000 row.now → low.new ≡ low_half (scaled_row high_factor row.now) }
-    ensures high { AreBounded 120000000 row.now → high.new ≡ high_half (scaled_row high_factor row.now) }
+    ensures low { AreBounded 200000000 row.now → low.new ≡ low_half (scaled_row high_factor row.now) }
+    ensures high { AreBounded 200000000 row.now → high.new ≡ high_half (scaled_row high_factor row.now) }
 {
     take_high_row(row, low, high);
     across(low, high);

@@ -2,21 +2,16 @@
 #![tactic(auto)]
 
 mod across;
-mod across_wide;
 mod component;
 mod finish;
-mod finish_wide;
 mod halves;
-mod halves_wide;
 mod lifting;
 mod plane;
 mod rounds;
 mod scaling;
 mod steps;
-mod wide;
 
 pub use component::{chroma_blue_row, chroma_red_row, luma_row};
 pub use finish::{finish_high_row, finish_low_row};
-pub use finish_wide::{finish_high_row_wide, finish_low_row_wide};
 pub use rounds::{lift_columns, round, start};
 pub use steps::{first_step, fourth_step, second_step, third_step};

@@ -2,12 +2,11 @@
 ghost use Rattle.std.specs.Prelude.{◌≡◌, ◌+◌, ◌<◌, ◌≤◌, length};
 
 use dwt97::{
-    chroma_blue_row, chroma_red_row, finish_high_row, finish_high_row_wide, finish_low_row,
-    finish_low_row_wide, lift_columns, luma_row,
+    chroma_blue_row, chroma_red_row, finish_high_row, finish_low_row, lift_columns, luma_row,
 };
 use std::process::Abort;
 
-/// Checks what a row that is low in its columns gives, and the same in 64 bits.
+/// Checks what a row that is low in its columns gives.
 fn check_low(rt: &impl Abort, row: &[i32], low: &[i32], high: &[i32])
     requires whole { length row.now ≡ length low.now + length high.now }
     requires room { length low.now ≤ 16 }
@@ -18,15 +17,6 @@ fn check_low(rt: &impl Abort, row: &[i32], low: &[i32], high: &[i32])
     let mut lows = [0; 16];
     let mut highs = [0; 16];
     finish_low_row(row, &mut lows[..low.len()], &mut highs[..high.len()]);
-    assert!(rt; &lows[..low.len()] == low);
-    assert!(rt; &highs[..high.len()] == high);
-    let mut scratch = [0; 2048];
-    finish_low_row_wide(
-        row,
-        &mut lows[..low.len()],
-        &mut highs[..high.len()],
-        &mut scratch,
-    );
     assert!(rt; &lows[..low.len()] == low);
     assert!(rt; &highs[..high.len()] == high);
 }
@@ -42,15 +32,6 @@ fn check_high(rt: &impl Abort, row: &[i32], low: &[i32], high: &[i32])
     let mut lows = [0; 16];
     let mut highs = [0; 16];
     finish_high_row(row, &mut lows[..low.len()], &mut highs[..high.len()]);
-    assert!(rt; &lows[..low.len()] == low);
-    assert!(rt; &highs[..high.len()] == high);
-    let mut scratch = [0; 2048];
-    finish_high_row_wide(
-        row,
-        &mut lows[..low.len()],
-        &mut highs[..high.len()],
-        &mut scratch,
-    );
     assert!(rt; &lows[..low.len()] == low);
     assert!(rt; &highs[..high.len()] == high);
 }
