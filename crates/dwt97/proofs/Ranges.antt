@@ -1,14 +1,14 @@
 -- How great samples are after each step, so that 32 bits hold them and their sums.
-use Rattle.std.proofs.Common.{◌≡◌, ℕ, ◌*◌, ◌^◌, ◌<◌, ◌≤◌, ap, arith, ◌∙◌, List, length, map, ℤ, pos, neg_ℤ, ◌+ℤ◌, ◌*ℤ◌, unsigned_abs, inl, inr}
+use Rattle.std.proofs.Common.{ℕ, ◌*◌, ◌^◌, ◌<◌, ◌≤◌, arith, List, length, map, ℤ, pos, neg_ℤ, ◌+ℤ◌, ◌*ℤ◌, unsigned_abs, inl, inr}
 use Rattle.std.specs.Int.{Width, w32}
 use Rattle.std.proofs.lemmas.Bool.{cases_order}
 use Rattle.std.specs.List.{range_with_len}
 use Rattle.std.proofs.lemmas.Int.{ints}
 use Rattle.std.proofs.lemmas.List.{get_or_past}
 use Rattle.std.proofs.lemmas.List.FromFn.{get_or-map-range_with_len, length-map-range_with_len}
-use Rattle.codec_terms.specs.Wavelet.{sample, scaled, clamped}
-use Rattle.wave_laws.specs.Rows.{step_factor, low_factor, high_factor, lifted_by, lifted_odd, lifted_even, even_twice, odd_twice, low_samples, high_samples}
-use Rattle.dwt97.specs.Lifting.{FitsLift, FitsLifts, FitsScaled, AreBounded, even_behind, odd_before, odd_behind}
+use Rattle.codec_terms.specs.Wavelet.{sample, scaled}
+use Rattle.wave_laws.specs.Rows.{step_factor, low_factor, high_factor, lifted_by}
+use Rattle.dwt97.specs.Lifting.{FitsLift, AreBounded}
 use Rattle.dwt97.proofs.Shifts.{IsShifted-int_shr}
 
 -- at most c hundredths of m

@@ -1,12 +1,12 @@
 -- 32 bits are enough for the steps of a line, where each sample that they make has room.
-use Rattle.std.proofs.Common.{◌≡◌, ℕ, ◌+◌, ◌-◌, ◌*◌, ◌^◌, ◌<◌, ◌≤◌, refl, sym, ap, subst, arith, ◌∙◌, List, length, map, ℤ, pos, neg_ℤ, ◌+ℤ◌, ◌*ℤ◌, unsigned_abs, All, w32}
+use Rattle.std.proofs.Common.{◌≡◌, ℕ, ◌+◌, ◌<◌, ◌≤◌, ap, subst, arith, ◌∙◌, List, length, map, ℤ, pos, All, w32}
 use Rattle.std.proofs.lemmas.Int.{ints}
 use Rattle.std.proofs.lemmas.List.{get_or_past, get_or-map}
 use Rattle.std.proofs.lemmas.List.Elements.{All-weaker}
 use Rattle.std.proofs.lemmas.List.FromFn.{get_or-map-range_with_len}
 use Rattle.codec_terms.specs.Wavelet.{sample, scaled, clamped}
 use Rattle.wave_laws.specs.Rows.{step_factor, low_factor, high_factor, lifted_by, lifted_odd, lifted_even, even_twice, odd_twice, low_samples, high_samples}
-use Rattle.wave_laws.specs.Ranges.{IsWithin, line_limit, HasRoom, AreHalvesWithin, HaveRoom}
+use Rattle.wave_laws.specs.Ranges.{IsWithin, line_limit, HasRoom, HaveRoom}
 use Rattle.wave_laws.proofs.LineBounds.{lines_have_room}
 use Rattle.dwt97.specs.Lifting.{FitsLift, FitsLifts, FitsScaled, AreBounded, even_behind, odd_before, odd_behind}
 use Rattle.dwt97.proofs.Ranges.{by_place}
