@@ -32,3 +32,4 @@ compare() {
 
 compare quantiser codec_terms quantiser
 compare colour mast_base xyz_convert
+compare wave dwt97

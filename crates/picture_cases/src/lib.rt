@@ -7,3 +7,5 @@ mod bands;
 mod colour;
 #[cfg(test)]
 mod inputs;
+#[cfg(test)]
+mod wave;

@@ -1,0 +1,10 @@
+pub mod Shifts
+pub mod Wraps
+pub mod Lifted
+pub mod Made
+pub mod Ranges
+pub mod Finished
+pub mod Components
+pub mod Places
+pub mod Sweep
+pub mod Room
