@@ -1,0 +1,4 @@
+pub mod Grids
+pub mod Heights
+pub mod Wanted
+pub mod Shapes
