@@ -2,3 +2,5 @@ pub mod Grids
 pub mod Heights
 pub mod Wanted
 pub mod Shapes
+pub mod Parents
+pub mod NewTree

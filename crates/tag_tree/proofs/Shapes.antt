@@ -31,7 +31,7 @@ HasPlace-tower columns rows x y (level ∷ below) tower wide high =
     let size = tower.0.each (y / 2 ^ d) [] row in
     (record { row = row; column = omega (arith, below-halved d x columns wide, size) }, HasPlace-tower columns rows x y below tower.1 wide high)
 
-leaf_rows-tower : {A : Type 0} (columns rows : ℕ) (levels : List (List (List A))) → 0 < length levels → IsTower columns rows levels → leaf_rows levels ≡ rows
+pub leaf_rows-tower : {A : Type 0} (columns rows : ℕ) (levels : List (List (List A))) → 0 < length levels → IsTower columns rows levels → leaf_rows levels ≡ rows
 unfolding sizes.halved
 leaf_rows-tower columns rows [] some tower = absurd (omega arith)
 leaf_rows-tower columns rows (leaves ∷ []) some tower = tower.0.size
@@ -106,8 +106,10 @@ IsTower-path_pushed columns rows bit t low x y (level ∷ below) place tower =
     cond_both (is_open t low node) (with_grid_item level (x / 2 ^ d) (y / 2 ^ d) (with_bit bit low node) ∷ below)
     (level ∷ path_pushed bit t (max low node.reached) x y below) (λ levels. IsTower columns rows levels)
     (λ e. (IsSized-with (sizes.halved d columns) (sizes.halved d rows) (x / 2 ^ d) (y / 2 ^ d) level (with_bit bit low node) place.0 tower.0, tower.1))
-    (λ e. (subst (λ n. IsSized (sizes.halved n columns) (sizes.halved n rows) level) (sym (length-path_pushed bit t (max low node.reached) x y below)) tower.0,
-    IsTower-path_pushed columns rows bit t (max low node.reached) x y below place.1 tower.1))
+    (λ e. (
+      subst (λ n. IsSized (sizes.halved n columns) (sizes.halved n rows) level) (sym (length-path_pushed bit t (max low node.reached) x y below)) tower.0,
+      IsTower-path_pushed columns rows bit t (max low node.reached) x y below place.1 tower.1,
+    ))
 
 pub IsWhole-path_pushed : (columns rows : ℕ) (bit : Bool) (t low x y : ℕ) (levels : List (List (List Found))) → HasPlace x y levels → IsWhole columns rows levels → IsWhole columns rows (path_pushed bit t low x y levels)
 IsWhole-path_pushed columns rows bit t low x y levels place w =
@@ -146,3 +148,8 @@ IsWhole-path_told columns rows t low x y levels place w =
 -- what is written back through a slice of a vector's items
 pub written_back : {A : Type 0} (n : ℕ) (new old : List A) → length new ≡ n → take n (new ++ drop (length new) old) ≡ new
 written_back n new old e = take_at new (drop (length new) old) n e
+
+pub leaf_rows-kept : {A : Type 0} (columns rows : ℕ) (before after : List (List (List A))) → length after ≡ length before → IsTower columns rows before → IsTower columns rows after → leaf_rows after ≡ leaf_rows before
+leaf_rows-kept columns rows [] [] e s t = refl
+leaf_rows-kept columns rows [] (level ∷ levels) e s t = absurd (omega arith)
+leaf_rows-kept columns rows (level ∷ levels) after e s t = leaf_rows-tower columns rows after (omega arith) t ∙ sym (leaf_rows-tower columns rows (level ∷ levels) (omega arith) s)

@@ -34,6 +34,12 @@ impl Node {
         }
     }
 
+    pub(crate) fn value(self) -> u32
+        ensures { result ≡ self.value }
+    {
+        self.value
+    }
+
     /// The least value that what was sent leaves the node.
     pub(crate) fn reached(self) -> u32
         ensures { result ≡ self.reached }

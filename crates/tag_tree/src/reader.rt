@@ -61,7 +61,8 @@ impl TreeReader {
     pub fn push(&mut self, at: u32, threshold: u32, bit: bool)
         requires leaf { at < found_count self.old }
         requires wanted { wants threshold self.old at ≡ true }
-        ensures { self.new ≡ pushed bit threshold self.old at }
+        ensures pushed { self.new ≡ pushed bit threshold self.old at }
+        ensures size { found_count self.new ≡ found_count self.old }
     {
         let at = at as usize;
         let leaf = Leaf {

@@ -1,0 +1,87 @@
+use crate::fill::fill;
+use crate::grid::Grid;
+use crate::levels::levels_of;
+use crate::node::Node;
+use crate::paths::{Leaf, push_bits, tell};
+use crate::truncate::truncate;
+use mast_base::{List, NoMemory};
+use std::alloc::Global;
+use std::marker::Model;
+
+/// A writer of a tree's bits. Contracts see the definition's tree.
+#[derive(Debug, Drop)]
+pub struct TreeWriter {
+    columns: usize,
+    rows: usize,
+    levels: Vec<Grid<Node>>,
+}
+
+impl Model for TreeWriter {
+    ghost use Rattle.codec_terms.specs.TagTree.{Tree};
+
+    ghost Value = { Tree };
+
+    ghost use Rattle.tag_tree.specs.Sizes.{IsWhole};
+
+    ghost view = { λ t. record { columns = t.columns; levels = t.levels.items } };
+
+    ghost invariant = { λ t. IsWhole t.columns t.rows t.levels.items };
+}
+
+impl TreeWriter {
+    ghost use Rattle.std.specs.Prelude.{◌≡◌, ◌<◌, ◌*◌, ◌++◌, IfOk, OnOk, OnErr, length};
+    ghost use Rattle.codec_terms.specs.TagTree.{new_tree, leaf_bits, leaf_told};
+    ghost use Rattle.tag_tree.specs.Trees.{leaf_rows, leaf_count};
+
+    /// A writer of which no bit was sent, over so many columns and rows of leaves with these values in raster order.
+    pub fn new(alloc: Global, columns: u32, rows: u32, values: &[u32]) -> Result<Self, NoMemory>
+        requires { length values.now ≡ rows * columns }
+        ensures { IfOk result (λ tree. tree ≡ new_tree columns rows values.now) }
+    {
+        let columns = columns as usize;
+        let rows = rows as usize;
+        let mut levels = levels_of(alloc, columns, rows, Node::new(0))?;
+        fill(&mut levels, columns, rows, values);
+        Ok(TreeWriter {
+            columns,
+            rows,
+            levels,
+        })
+    }
+
+    /// Begins anew with other values of the leaves. It takes no memory.
+    pub fn reset(&mut self, values: &[u32])
+        requires { length values.now ≡ leaf_count self.old }
+        ensures { self.new ≡ new_tree self.old.columns (leaf_rows self.old.levels) values.now }
+    {
+        fill(&mut self.levels, self.columns, self.rows, values);
+    }
+
+    /// Appends the bits of leaf number `at`, in raster order, behind all that were sent before. After `NoMemory` the
+    /// tree and `out` are as they were.
+    pub fn leaf(&mut self, at: u32, threshold: u32, out: &mut List<bool>) -> Result<(), NoMemory>
+        requires leaf { at < leaf_count self.old }
+        ensures told { OnOk result (self.new ≡ leaf_told threshold self.old at) }
+        ensures bits { OnOk result (out.new ≡ out.old ++ leaf_bits threshold self.old at) }
+        ensures size { leaf_count self.new ≡ leaf_count self.old }
+        ensures tree_kept { OnErr result (self.new ≡ self.old) }
+        ensures bits_kept { OnErr result (out.new ≡ out.old) }
+    {
+        let at = at as usize;
+        let leaf = Leaf {
+            x: at % self.columns,
+            y: at / self.columns,
+        };
+        let before = out.len();
+        match push_bits(&self.levels, leaf, 0, threshold, out) {
+            Ok(()) => {
+                tell(&mut self.levels, leaf, 0, threshold);
+                Ok(())
+            }
+            Err(NoMemory) => {
+                truncate(out, before);
+                Err(NoMemory)
+            }
+        }
+    }
+}
