@@ -1,10 +1,11 @@
 -- The levels that are filled are those of the definition's new tree.
-use Rattle.std.proofs.Common.{◌≡◌, ℕ, zero, suc, ◌+◌, ◌*◌, ◌<◌, ◌≤◌, refl, sym, ap, ap₂, ◌∙◌, arith, Bool, true, false, List, [], ◌∷◌, ◌++◌, length, map, append_assoc, subst, inl, inr}
+use Rattle.std.proofs.Common.{◌≡◌, ℕ, zero, suc, ◌+◌, ◌-◌, ◌*◌, ◌<◌, ◌≤◌, refl, sym, ap, ap₂, ◌∙◌, arith, Bool, true, false, List, [], ◌∷◌, ◌++◌, length, map, append_assoc, subst, inl, inr}
 use Rattle.std.specs.Prelude.{if◌then◌else◌}
 use Rattle.std.specs.Int.{div_ceil}
+use Rattle.std.specs.List.{range_with_len}
 use Rattle.std.proofs.lemmas.Bool.{ne_eqb, false≢true}
 use Rattle.codec_terms.specs.Grid.{grid_of}
-use Rattle.codec_terms.specs.TagTree.{Node, Tree, new_node, new_tree, parents, is_empty, is_root, levels_from, value_levels}
+use Rattle.codec_terms.specs.TagTree.{Node, Tree, new_node, new_tree, parents, is_empty, is_root, levels_from, value_levels, leaf_bits, leaf_told, leaves_bits}
 use Rattle.tag_tree.specs.Children.{ancestors, raised, raised_nodes}
 use Rattle.tag_tree.specs.Sizes as sizes
 use Rattle.tag_tree.specs.Sizes.{IsSized, IsTower, IsWhole, height, level_count}
@@ -102,7 +103,7 @@ empty_product (suc columns) (suc rows) e =
     let full : is_empty (suc columns) (suc rows) ≡ false = rw (ne_eqb (suc columns) 0 (λ e. omega arith), ne_eqb (suc rows) 0 (λ e. omega arith)) refl in
     absurd (false≢true (sym full ∙ e))
 
-pub whole-leaves : (columns rows n : ℕ) (levels : List (List (List Node))) → IsWhole columns rows levels → n ≡ leaf_rows levels * columns → n ≡ rows * columns
+pub whole-leaves : {A : Type 0} (columns rows n : ℕ) (levels : List (List (List A))) → IsWhole columns rows levels → n ≡ leaf_rows levels * columns → n ≡ rows * columns
 whole-leaves columns rows n [] w e = e ∙ (let none : 0 * columns ≡ 0 = omega arith in none) ∙ sym (empty_product columns rows (no_leaves columns rows (sym w.count)))
 whole-leaves columns rows n (level ∷ levels) w e = e ∙ ap (λ r. r * columns) (leaf_rows-tower columns rows (level ∷ levels) (omega arith) w.tower)
 
@@ -114,3 +115,22 @@ pub new_tree-rows : (columns rows : ℕ) (values : List ℕ) (levels : List (Lis
 unfolding new_tree
 new_tree-rows columns rows values [] w = rw (no_leaves columns rows (sym w.count), empty_rows columns) refl
 new_tree-rows columns rows values (level ∷ levels) w = ap (λ r. new_tree columns r values) (sym (leaf_rows-tower columns rows (level ∷ levels) (omega arith) w.tower))
+
+-- ---- the bits of leaf after leaf
+
+pub no-leaf-yet : (t n : ℕ) (tree : Tree) (bits : List Bool) → bits ≡ [] → bits ++ leaves_bits t tree (range_with_len 0 (n - 0)) ≡ leaves_bits t tree (range_with_len 0 n)
+no-leaf-yet t n tree bits e = let all : n - 0 ≡ n = omega arith in rw (e, all) refl
+
+pub one-leaf-more : (t at n : ℕ) (tree : Tree) (bits all : List Bool) → at < n → bits ++ leaves_bits t tree (range_with_len at (n - at)) ≡ all
+    → (bits ++ leaf_bits t tree at) ++ leaves_bits t (leaf_told t tree at) (range_with_len (at + 1) (n - (at + 1))) ≡ all
+unfolding leaves_bits
+one-leaf-more t at n tree bits all inside e =
+    let more : n - at ≡ suc (n - (at + 1)) = omega arith in
+    append_assoc bits (leaf_bits t tree at) (leaves_bits t (leaf_told t tree at) (range_with_len (at + 1) (n - (at + 1))))
+    ∙ subst (λ m. bits ++ leaves_bits t tree (range_with_len at m) ≡ all) more e
+
+pub all-leaves : (t at n : ℕ) (tree : Tree) (bits all : List Bool) → n ≤ at → bits ++ leaves_bits t tree (range_with_len at (n - at)) ≡ all → bits ≡ all
+unfolding leaves_bits
+all-leaves t at n tree bits all past e =
+    let none : n - at ≡ 0 = omega arith in
+    sym (append-none bits) ∙ subst (λ m. bits ++ leaves_bits t tree (range_with_len at m) ≡ all) none e

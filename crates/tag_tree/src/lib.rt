@@ -12,4 +12,4 @@ mod truncate;
 mod writer;
 
 pub use reader::TreeReader;
-pub use writer::TreeWriter;
+pub use writer::{TreeWriter, write_tree};

@@ -27,13 +27,14 @@ impl Model for TreeReader {
 }
 
 impl TreeReader {
-    ghost use Rattle.std.specs.Prelude.{◌≡◌, ◌<◌, true, IfOk};
+    ghost use Rattle.std.specs.Prelude.{◌≡◌, ◌*◌, ◌<◌, true, IfOk};
     ghost use Rattle.codec_terms.specs.TagTree.{blank_tree, wants, pushed, leaf_value};
     ghost use Rattle.tag_tree.specs.Trees.{found_count};
 
     /// A reader of which no bit was read, for a tree over so many columns and rows of leaves.
     pub fn new(alloc: Global, columns: u32, rows: u32) -> Result<Self, NoMemory>
-        ensures { IfOk result (λ tree. tree ≡ blank_tree columns rows) }
+        ensures tree { IfOk result (λ tree. tree ≡ blank_tree columns rows) }
+        ensures leaves { IfOk result (λ tree. found_count tree ≡ rows * columns) }
     {
         let columns = columns as usize;
         let rows = rows as usize;

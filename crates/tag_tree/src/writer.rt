@@ -1,3 +1,7 @@
+ghost use Rattle.std.specs.Prelude.{◌≡◌, ◌*◌, IfOk, length};
+ghost use Rattle.std.specs.List.{range_with_len};
+ghost use Rattle.codec_terms.specs.TagTree.{new_tree, leaves_bits};
+
 use crate::fill::fill;
 use crate::grid::Grid;
 use crate::levels::levels_of;
@@ -36,7 +40,8 @@ impl TreeWriter {
     /// A writer of which no bit was sent, over so many columns and rows of leaves with these values in raster order.
     pub fn new(alloc: Global, columns: u32, rows: u32, values: &[u32]) -> Result<Self, NoMemory>
         requires { length values.now ≡ rows * columns }
-        ensures { IfOk result (λ tree. tree ≡ new_tree columns rows values.now) }
+        ensures tree { IfOk result (λ tree. tree ≡ new_tree columns rows values.now) }
+        ensures leaves { IfOk result (λ tree. leaf_count tree ≡ rows * columns) }
     {
         let columns = columns as usize;
         let rows = rows as usize;
@@ -52,7 +57,8 @@ impl TreeWriter {
     /// Begins anew with other values of the leaves. It takes no memory.
     pub fn reset(&mut self, values: &[u32])
         requires { length values.now ≡ leaf_count self.old }
-        ensures { self.new ≡ new_tree self.old.columns (leaf_rows self.old.levels) values.now }
+        ensures tree { self.new ≡ new_tree self.old.columns (leaf_rows self.old.levels) values.now }
+        ensures size { leaf_count self.new ≡ leaf_count self.old }
     {
         fill(&mut self.levels, self.columns, self.rows, values);
     }
@@ -67,7 +73,23 @@ impl TreeWriter {
         ensures tree_kept { OnErr result (self.new ≡ self.old) }
         ensures bits_kept { OnErr result (out.new ≡ out.old) }
     {
-        let at = at as usize;
+        self.leaf_at(at as usize, threshold, out)
+    }
+
+    /// The same for any number of leaves.
+    pub(crate) fn leaf_at(
+        &mut self,
+        at: usize,
+        threshold: u32,
+        out: &mut List<bool>,
+    ) -> Result<(), NoMemory>
+        requires leaf { at < leaf_count self.old }
+        ensures told { OnOk result (self.new ≡ leaf_told threshold self.old at) }
+        ensures bits { OnOk result (out.new ≡ out.old ++ leaf_bits threshold self.old at) }
+        ensures size { leaf_count self.new ≡ leaf_count self.old }
+        ensures tree_kept { OnErr result (self.new ≡ self.old) }
+        ensures bits_kept { OnErr result (out.new ≡ out.old) }
+    {
         let leaf = Leaf {
             x: at % self.columns,
             y: at / self.columns,
@@ -84,4 +106,24 @@ impl TreeWriter {
             }
         }
     }
+}
+
+/// The bits of all leaves in raster order, each for this threshold.
+pub fn write_tree(
+    alloc: Global,
+    columns: u32,
+    rows: u32,
+    values: &[u32],
+    threshold: u32,
+) -> Result<List<bool>, NoMemory>
+    requires { length values.now ≡ rows * columns }
+    ensures { IfOk result (λ bits. bits ≡ leaves_bits threshold (new_tree columns rows values.now)
+        (range_with_len 0 (rows * columns))) }
+{
+    let mut tree = TreeWriter::new(alloc, columns, rows, values)?;
+    let mut bits = List::new(alloc);
+    for at in 0..values.len() {
+        tree.leaf_at(at, threshold, &mut bits)?;
+    }
+    Ok(bits)
 }

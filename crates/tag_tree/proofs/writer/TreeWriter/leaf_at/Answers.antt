@@ -3,7 +3,7 @@ use Rattle.codec_terms.specs.TagTree.{Tree, path_told}
 use Rattle.tag_tree.specs.Trees.{leaf_rows, leaf_count}
 use Rattle.tag_tree.specs.Sizes.{HasPlace, IsWhole}
 use Rattle.tag_tree.proofs.Shapes.{HasPlace-leaf, IsWhole-path_told, length-path_told, leaf_rows-kept, written_back}
-use Rattle.tag_tree.proofs.writer.TreeWriter.leaf.Goals as goal
+use Rattle.tag_tree.proofs.writer.TreeWriter.leaf_at.Goals as goal
 
 pub push_bits-requires-clause-place : goal.push_bits-requires-clause-place
 push_bits-requires-clause-place c =
