@@ -1,10 +1,10 @@
 -- Grids whose rows stand behind one another.
-use Rattle.std.proofs.Common.{◌≡◌, ℕ, zero, suc, ◌+◌, ◌-◌, ◌*◌, ◌<◌, ◌≤◌, refl, sym, ap, ap₂, ◌∙◌, arith, List, [], ◌∷◌, length, take, drop, get_or, set, replicate, All, mul-le-mul_right, mul-le-mul_left}
+use Rattle.std.proofs.Common.{◌≡◌, ℕ, zero, suc, ◌+◌, ◌-◌, ◌*◌, ◌<◌, ◌≤◌, refl, sym, ap, arith, List, [], ◌∷◌, length, take, drop, get_or, set, replicate, mul-le-mul_right}
 use Rattle.std.specs.Prelude.{⊤}
-use Rattle.std.proofs.lemmas.List.{take-set-le, drop-set-lt, drop-set-add, take-replicate, drop-replicate, length-replicate}
+use Rattle.std.proofs.lemmas.List.{take-set-le, drop-set-lt, drop-set-add, take-replicate, drop-replicate}
 use Rattle.std.proofs.Math.Seq.{take-set-lt}
 use Rattle.codec_terms.specs.Grid.{grid_of, grid_item, with_grid_item}
-use Rattle.codec_laws.specs.Bounds.{IsRowOf, IsGridOf}
+use Rattle.codec_laws.specs.Bounds.{IsGridOf}
 use Rattle.codec_laws.specs.TreeReading.{IsInside}
 use Rattle.codec_laws.proofs.Lists.{All-each}
 use Rattle.codec_laws.proofs.Grids.{IsGridOf-grid_of}

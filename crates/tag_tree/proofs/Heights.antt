@@ -1,13 +1,13 @@
 -- The levels over a grid of leaves, as they are made from the leaves up.
-use Rattle.std.proofs.Common.{◌≡◌, ℕ, zero, suc, ◌+◌, ◌-◌, ◌*◌, ◌/◌, ◌^◌, ◌<◌, ◌≤◌, refl, sym, ap, ap₂, ◌∙◌, arith, Bool, true, false, List, [], ◌∷◌, length, get_or, replicate, All, inl, inr, subst}
-use Rattle.std.specs.Prelude.{if◌then◌else◌, nat_le, ◌&&◌}
+use Rattle.std.proofs.Common.{◌≡◌, ℕ, zero, suc, ◌+◌, ◌-◌, ◌*◌, ◌^◌, ◌<◌, ◌≤◌, refl, sym, ap, ◌∙◌, arith, Bool, true, false, List, [], ◌∷◌, length, replicate, inl, inr, subst}
+use Rattle.std.specs.Prelude.{if◌then◌else◌}
 use Rattle.std.specs.Int.{div_ceil}
 use Rattle.std.proofs.Math.Nat.{pow-succ'}
 use Rattle.std.proofs.lemmas.Bool.{cases_lt, lt-leb, le-leb, ne_eqb, false≢true}
 use Rattle.std.proofs.lemmas.List.{length-replicate}
 use Rattle.std.proofs.lemmas.List.Elements.{All-replicate}
 use Rattle.codec_terms.specs.TagTree.{is_root, is_empty, nothing_found, Found, blank_grid, blank_levels, blank_tree}
-use Rattle.tag_tree.specs.Sizes.{IsSized, halved, IsTower, height, level_count, IsWhole, same_levels, same_tree}
+use Rattle.tag_tree.specs.Sizes.{IsSized, halved, IsTower, height, IsWhole, same_levels, same_tree}
 
 -- ---- sizes
 

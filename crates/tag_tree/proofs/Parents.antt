@@ -1,12 +1,12 @@
 -- A level that is gathered from the one below it is the definition's.
-use Rattle.std.proofs.Common.{◌≡◌, ℕ, zero, suc, ◌+◌, ◌-◌, ◌*◌, ◌/◌, ◌%◌, ◌<◌, ◌≤◌, refl, sym, ap, ap₂, ◌∙◌, arith, min, List, [], ◌∷◌, ◌++◌, length, map, get_or, set, take, drop, All, subst, Option, Some, None}
+use Rattle.std.proofs.Common.{◌≡◌, ℕ, zero, suc, ◌+◌, ◌-◌, ◌*◌, ◌<◌, refl, sym, ap, ap₂, ◌∙◌, arith, min, List, [], ◌∷◌, ◌++◌, length, map, get_or, set, take, drop, All, subst, Some, None}
 use Rattle.std.specs.Int.{div_ceil}
 use Rattle.std.specs.List.{slice_get}
 use Rattle.std.proofs.lemmas.List.{length-map, get_or-map, ext_get_or, take-map, drop-map, take_more, take_more_set, map-append}
 use Rattle.std.proofs.lemmas.List.Elements.{All-nil, All-cons, All-head, All-tail, All-map}
 use Rattle.codec_terms.specs.Grid.{grid_of, grid_item}
 use Rattle.codec_terms.specs.TagTree.{Node, no_node, new_node, pairs_joined, least_of_each, parents}
-use Rattle.tag_tree.specs.Children.{wide, value_at, least_child, IsHalf, HasChildren, ancestors, raised, raised_nodes}
+use Rattle.tag_tree.specs.Children.{wide, least_child, IsHalf, ancestors, raised, raised_nodes}
 use Rattle.tag_tree.specs.Sizes as sizes
 use Rattle.tag_tree.specs.Sizes.{IsSized, IsTower}
 use Rattle.tag_tree.proofs.Grids.{rows-of}

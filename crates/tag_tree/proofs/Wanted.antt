@@ -1,5 +1,5 @@
 -- Which node of a path a bit belongs to.
-use Rattle.std.proofs.Common.{◌≡◌, ℕ, sym, subst, ◌∙◌, Bool, true, false, max, List, ◌∷◌, length}
+use Rattle.std.proofs.Common.{◌≡◌, ℕ, sym, subst, Bool, true, false, max, List, ◌∷◌, length}
 use Rattle.std.specs.Prelude.{◌||◌}
 use Rattle.std.proofs.lemmas.Bool.{false≢true}
 use Rattle.codec_terms.specs.TagTree.{Found, found_above, is_open, path_wants}

@@ -1,5 +1,5 @@
 -- How large the levels of a tree are.
-use Rattle.std.specs.Prelude.{◌≡◌, ℕ, zero, suc, ◌+◌, ◌/◌, ◌^◌, ◌≤◌, Bool, true, false, if◌then◌else◌, List, [], ◌∷◌, length, replicate, All, ⊤}
+use Rattle.std.specs.Prelude.{◌≡◌, ℕ, zero, suc, ◌+◌, ◌/◌, ◌^◌, ◌≤◌, true, false, if◌then◌else◌, List, [], ◌∷◌, length, replicate, All, ⊤}
 use Rattle.std.specs.Int.{div_ceil}
 use Rattle.codec_terms.specs.TagTree.{is_empty, is_root}
 use Rattle.codec_laws.specs.TreeReading.{IsInside}

@@ -1,7 +1,7 @@
-use Rattle.std.proofs.Common.{◌≡◌, ◌∙◌, ◌+◌, ◌<◌, sym, ap, arith, length, subst, Some, None}
+use Rattle.std.proofs.Common.{◌∙◌, ◌<◌, sym, ap, arith, length, subst}
 use Rattle.std.specs.List.{slice_get}
 use Rattle.codec_terms.specs.Grid.{grid_of}
-use Rattle.tag_tree.specs.Children.{raised_nodes, ancestors}
+use Rattle.tag_tree.specs.Children.{ancestors}
 use Rattle.tag_tree.specs.Sizes as sizes
 use Rattle.tag_tree.specs.Sizes.{IsTower, IsSized}
 use Rattle.tag_tree.proofs.Parents.{IsFirst, first-raised, none-raised, one-more, none-there, leaves-level, leaves-values, IsHalf-next, gathered, IsSized-grid_of, nodes}

@@ -1,9 +1,7 @@
-use Rattle.std.proofs.Common.{◌≡◌, ◌<◌, ◌∷◌, [], ap, ap₂, subst, sym, ◌∙◌, arith, false, true, replicate, rules}
-use Rattle.std.specs.Prelude.{not}
-use Rattle.std.specs.Int.{div_ceil}
+use Rattle.std.proofs.Common.{◌≡◌, ◌∷◌, ap, subst, sym, ◌∙◌, arith, false, true, replicate}
 use Rattle.codec_terms.specs.TagTree.{is_root}
-use Rattle.tag_tree.specs.Sizes.{IsWhole, same_tree}
-use Rattle.tag_tree.proofs.Heights.{Grown, Grown-none, Grown-more, Grown-same, Grown-whole, none-same, none-whole}
+use Rattle.tag_tree.specs.Sizes.{IsWhole}
+use Rattle.tag_tree.proofs.Heights.{Grown, Grown-none, Grown-more, Grown-same, Grown-whole}
 use Rattle.tag_tree.proofs.levels.levels_of.Goals as goal
 
 pub loop-levels-init : goal.loop-levels-init

@@ -1,4 +1,4 @@
-use Rattle.std.proofs.Common.{◌≡◌, subst, sym, ◌∙◌, true, ap, rules, arith, length}
+use Rattle.std.proofs.Common.{◌≡◌, subst, sym, ◌∙◌, true, arith}
 use Rattle.codec_terms.specs.TagTree.{path_wants}
 use Rattle.codec_laws.specs.TreeReading.{no_found}
 use Rattle.tag_tree.specs.Sizes.{HasPlace}

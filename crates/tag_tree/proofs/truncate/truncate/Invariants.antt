@@ -1,4 +1,4 @@
-use Rattle.std.proofs.Common.{◌≡◌, ◌-◌, length, take}
+use Rattle.std.proofs.Common.{◌≡◌, length, take}
 use Rattle.tag_tree.proofs.truncate.truncate.Given as goal
 
 abbrev pub invariant-loop-list : goal.invariant-loop-list

@@ -1,4 +1,4 @@
-use Rattle.std.proofs.Common.{◌≡◌, ◌++◌, ◌*◌, ◌-◌, ◌+◌, ◌∙◌, sym, ap, ap₂, subst, length}
+use Rattle.std.proofs.Common.{◌++◌, ◌-◌, ◌+◌, ◌∙◌, sym, ap₂, length}
 use Rattle.std.specs.List.{range_with_len}
 use Rattle.codec_terms.specs.TagTree.{Tree, leaves_bits}
 use Rattle.tag_tree.proofs.NewTree.{no-leaf-yet, one-leaf-more, all-leaves}

@@ -1,8 +1,8 @@
-use Rattle.std.proofs.Common.{◌≡◌, ◌∙◌, ℕ, ◌+◌, ◌*◌, ◌/◌, ◌%◌, ◌<◌, sym, ap, ap₂, subst, arith, length, get_or}
+use Rattle.std.proofs.Common.{◌∙◌, ◌+◌, ◌*◌, ◌/◌, ◌%◌, ◌<◌, sym, ap₂, arith}
 use Rattle.std.proofs.lemmas.Nat.{div-mul-add, mod-mul-add, mod_below, div_below}
 use Rattle.codec_terms.specs.Grid.{grid_of, grid_item}
-use Rattle.codec_terms.specs.TagTree.{Node, new_node, no_node}
-use Rattle.tag_tree.specs.Children.{wide, least_child, HasChildren}
+use Rattle.codec_terms.specs.TagTree.{new_node, no_node}
+use Rattle.tag_tree.specs.Children.{least_child}
 use Rattle.tag_tree.specs.Sizes.{IsSized}
 use Rattle.tag_tree.proofs.Grids.{grid_item-at, place-below, IsPlaced}
 use Rattle.tag_tree.proofs.Parents.{IsSized-grid_of, half-sizes}

@@ -1,6 +1,6 @@
-use Rattle.std.proofs.Common.{◌≡◌, refl, ◌∙◌, sym, ap, ℕ, ◌+◌, ◌-◌, ◌*◌, min, length}
+use Rattle.std.proofs.Common.{◌≡◌, refl, ◌∙◌, ap, ◌+◌, ◌-◌, ◌*◌, min, length}
 use Rattle.codec_terms.specs.TagTree.{Node, no_node}
-use Rattle.tag_tree.specs.Children.{least_child, wide, value_at}
+use Rattle.tag_tree.specs.Children.{least_child, wide}
 use Rattle.tag_tree.proofs.grid.Grid+Node.least_child.Goals as goal
 
 pub returns : goal.returns

@@ -1,4 +1,4 @@
-use Rattle.std.proofs.Common.{◌≡◌, ◌∙◌, ◌*◌, ◌<◌, sym, ap, ap₂, subst, arith, length, map, take}
+use Rattle.std.proofs.Common.{◌≡◌, ◌∙◌, ◌*◌, sym, ap, ap₂, arith, length, map}
 use Rattle.std.proofs.lemmas.List.{length-set, take_all}
 use Rattle.codec_terms.specs.Grid.{grid_of}
 use Rattle.codec_terms.specs.TagTree.{new_node}

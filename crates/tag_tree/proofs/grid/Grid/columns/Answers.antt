@@ -1,4 +1,4 @@
-use Rattle.std.proofs.Common.{◌≡◌, ◌∙◌, ◌<◌, sym, ap, subst, arith, length}
+use Rattle.std.proofs.Common.{◌∙◌, ◌<◌, sym, ap, subst, arith, length}
 use Rattle.codec_terms.specs.Grid.{grid_of}
 use Rattle.tag_tree.specs.Children.{wide}
 use Rattle.tag_tree.proofs.Parents.{wide-sized, IsSized-grid_of}

@@ -1,9 +1,9 @@
-use Rattle.std.proofs.Common.{◌≡◌, ℕ, ◌+◌, ◌*◌, ◌<◌, ◌≤◌, arith, rules, subst, ap, sym, ◌∙◌, get_or, length}
+use Rattle.std.proofs.Common.{◌≡◌, ◌+◌, ◌*◌, ◌<◌, arith, rules, ap, ◌∙◌, length}
 use Rattle.std.specs.Prelude.{◌^◌}
 use Rattle.std.proofs.lemmas.List.{get_or_read_under}
 use Rattle.codec_terms.specs.Grid.{grid_of, grid_item}
 use Rattle.codec_laws.specs.TreeReading.{IsInside}
-use Rattle.tag_tree.proofs.Grids.{IsPlaced, inside-placed, place-below, grid_item-at}
+use Rattle.tag_tree.proofs.Grids.{inside-placed, place-below, grid_item-at}
 use Rattle.tag_tree.proofs.grid.Grid.get.Goals as goal
 
 pub overflow_mul-y : goal.overflow_mul-y

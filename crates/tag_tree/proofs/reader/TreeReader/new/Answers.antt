@@ -1,4 +1,4 @@
-use Rattle.std.proofs.Common.{◌≡◌, ◌*◌, ◌∙◌, refl, ap, List}
+use Rattle.std.proofs.Common.{◌*◌, ◌∙◌, refl, ap, List}
 use Rattle.codec_terms.specs.TagTree.{Found, FoundTree}
 use Rattle.tag_tree.specs.Sizes.{same_tree}
 use Rattle.tag_tree.specs.Trees.{leaf_rows}

@@ -1,9 +1,8 @@
-use Rattle.std.proofs.Common.{◌≡◌, ℕ, suc, ◌-◌, ◌<◌, ◌*◌, ◌/◌, ◌%◌, ◌∙◌, subst, sym, ap, arith, length, get_or}
+use Rattle.std.proofs.Common.{◌≡◌, suc, ◌-◌, ◌<◌, ◌*◌, ◌/◌, ◌%◌, ◌∙◌, subst, sym, ap, arith, length, get_or}
 use Rattle.codec_terms.specs.Grid.{grid_item}
 use Rattle.codec_terms.specs.TagTree.{FoundTree, leaf_value}
 use Rattle.codec_laws.specs.TreeReading.{IsInside, no_found}
 use Rattle.tag_tree.specs.Trees.{leaf_rows, found_count}
-use Rattle.tag_tree.specs.Sizes.{HasPlace}
 use Rattle.tag_tree.proofs.Shapes.{HasPlace-leaf, last-place, last-found, value_of}
 use Rattle.tag_tree.proofs.reader.TreeReader.value.Goals as goal
 

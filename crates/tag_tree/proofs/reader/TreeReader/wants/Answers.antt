@@ -1,4 +1,4 @@
-use Rattle.std.proofs.Common.{◌≡◌, ◌<◌, ◌*◌, ◌/◌, ◌%◌, subst, sym, ap}
+use Rattle.std.proofs.Common.{◌<◌, ◌*◌, ◌/◌, ◌%◌, subst, sym}
 use Rattle.codec_terms.specs.TagTree.{FoundTree}
 use Rattle.tag_tree.specs.Trees.{leaf_rows, found_count}
 use Rattle.tag_tree.specs.Sizes.{HasPlace}

@@ -1,4 +1,4 @@
-use Rattle.std.proofs.Common.{◌≡◌, ◌<◌, ◌*◌, ◌/◌, ◌%◌, ◌++◌, ◌∙◌, subst, sym, ap, length, take, drop}
+use Rattle.std.proofs.Common.{◌≡◌, ◌<◌, ◌*◌, ◌/◌, ◌%◌, ◌∙◌, subst, sym, ap, length}
 use Rattle.codec_terms.specs.TagTree.{Tree, path_told}
 use Rattle.tag_tree.specs.Trees.{leaf_rows, leaf_count}
 use Rattle.tag_tree.specs.Sizes.{HasPlace, IsWhole}
