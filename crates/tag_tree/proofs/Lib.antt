@@ -4,3 +4,5 @@ pub mod Wanted
 pub mod Shapes
 pub mod Parents
 pub mod NewTree
+pub mod ReadBack
+pub mod Answered

@@ -27,7 +27,7 @@ impl Model for TreeReader {
 }
 
 impl TreeReader {
-    ghost use Rattle.std.specs.Prelude.{◌≡◌, ◌*◌, ◌<◌, true, IfOk};
+    ghost use Rattle.std.specs.Prelude.{◌≡◌, ◌*◌, ◌<◌, ◌≤◌, true, IfOk, length};
     ghost use Rattle.codec_terms.specs.TagTree.{blank_tree, wants, pushed, leaf_value};
     ghost use Rattle.tag_tree.specs.Trees.{found_count};
 
@@ -43,6 +43,14 @@ impl TreeReader {
             rows,
             levels: levels_of(alloc, columns, rows, Found::nothing())?,
         })
+    }
+
+    /// How many levels the tree has, from the root's down to that of the leaves.
+    pub fn level_count(&self) -> u32
+        ensures count { result ≡ length self.now.levels }
+        ensures few { result ≤ 33 }
+    {
+        self.levels.len() as u32
     }
 
     /// Whether leaf number `at`, in raster order, needs a further bit for this threshold.

@@ -33,15 +33,18 @@ impl Model for TreeWriter {
 }
 
 impl TreeWriter {
-    ghost use Rattle.std.specs.Prelude.{◌≡◌, ◌<◌, ◌*◌, ◌++◌, IfOk, OnOk, OnErr, length};
+    ghost use Rattle.std.specs.Prelude.{◌≡◌, ◌<◌, ◌*◌, ◌++◌, IfOk, OnOk, OnErr, List, length};
     ghost use Rattle.codec_terms.specs.TagTree.{new_tree, leaf_bits, leaf_told};
     ghost use Rattle.tag_tree.specs.Trees.{leaf_rows, leaf_count};
+    ghost use Rattle.tag_tree.specs.Asking.{Question, AreLeaves, AreReadBack};
 
     /// A writer of which no bit was sent, over so many columns and rows of leaves with these values in raster order.
     pub fn new(alloc: Global, columns: u32, rows: u32, values: &[u32]) -> Result<Self, NoMemory>
         requires { length values.now ≡ rows * columns }
         ensures tree { IfOk result (λ tree. tree ≡ new_tree columns rows values.now) }
         ensures leaves { IfOk result (λ tree. leaf_count tree ≡ rows * columns) }
+        ensures read_back { IfOk result (λ tree. (qs : List Question) → AreLeaves (rows * columns) qs
+            → AreReadBack columns rows values.now tree qs) }
     {
         let columns = columns as usize;
         let rows = rows as usize;
