@@ -1,14 +1,14 @@
 -- A reader that is asked the same list as a writer takes its bits, and knows what they state.
-use Rattle.std.proofs.Common.{◌≡◌, ◌≢◌, ℕ, ◌+◌, ◌*◌, ◌<◌, refl, sym, ap, ap₂, subst, ◌∙◌, arith, Bool, true, false, List, [], ◌∷◌, ◌++◌, length, append_assoc, inl, inr, All, Option, Some, None}
-use Rattle.std.specs.Prelude.{◌==◌, ◌&&◌, ◌||◌, if◌then◌else◌, nat_lt, slice_index}
+use Rattle.std.proofs.Common.{◌≡◌, ◌≢◌, ℕ, ◌*◌, refl, sym, ap, ap₂, subst, ◌∙◌, Bool, true, false, List, [], ◌∷◌, ◌++◌, length, append_assoc, inl, inr, All, Some, None}
+use Rattle.std.specs.Prelude.{◌||◌, if◌then◌else◌, nat_lt, slice_index}
 use Rattle.std.specs.List.{list_any}
 use Rattle.std.proofs.lemmas.Bool.{cases_eq, eq-eqb, ne_eqb}
 use Rattle.std.proofs.lemmas.List.Elements.{All-head, All-tail}
-use Rattle.codec_terms.specs.TagTree.{Tree, Node, FoundTree, new_node, new_tree, blank_tree, leaf_bits, leaf_told, leaf_value}
-use Rattle.codec_laws.specs.TreeReading.{AreSameTrees, HasLeaf, leaf_of, known_value}
+use Rattle.codec_terms.specs.TagTree.{Tree, Node, FoundTree, new_tree, blank_tree, leaf_bits, leaf_told, leaf_value}
+use Rattle.codec_laws.specs.TreeReading.{AreSameTrees, HasLeaf, leaf_of}
 use Rattle.codec_laws.proofs.TagTrees.{HasLeaf-leaf_told, leaf_of-leaf_told, leaf_of-other, leaf_value-is}
 use Rattle.codec_laws.proofs.TreeLevels.{AreSameTrees-new, HasLeaf-new, leaf_of-new}
-use Rattle.tag_tree.specs.Asking.{Question, asked_bits, leaf_taken, all_taken, tells, stated, AreReadBack, AreLeaves}
+use Rattle.tag_tree.specs.Asking.{Question, asked_bits, leaf_taken, all_taken, tells, AreReadBack, AreLeaves}
 use Rattle.tag_tree.proofs.ReadBack.{leaf_taken-is}
 
 record AreTaken (tree : Tree) (found : FoundTree) (qs : List Question) : Type 0 where

@@ -1,14 +1,13 @@
 -- A tag tree's bits are read back from a list of bits.
-use Rattle.std.proofs.Common.{◌≡◌, ◌≢◌, ℕ, zero, suc, ◌+◌, ◌-◌, ◌*◌, ◌<◌, ◌≤◌, refl, sym, ap, ap₂, subst, ◌∙◌, arith, Bool, true, false, List, [], ◌∷◌, ◌++◌, length, drop, get_or, replicate, Result, Ok, inl, inr, append_assoc, All}
-use Rattle.std.proofs.lemmas.Bool.{cases_lt, cases_eq, true≢false}
-use Rattle.std.proofs.lemmas.List.{length-append, length-replicate, length-drop, get_or-drop, get_or-replicate, get_or_append_left, get_or-append-add, drop_at, drop-drop}
+use Rattle.std.proofs.Common.{◌≡◌, ℕ, zero, suc, ◌+◌, ◌-◌, ◌*◌, ◌<◌, ◌≤◌, refl, sym, ap, subst, ◌∙◌, arith, Bool, true, false, List, [], ◌∷◌, ◌++◌, length, drop, get_or, replicate, Result, Ok, inl, inr}
+use Rattle.std.proofs.lemmas.Bool.{cases_lt, true≢false}
+use Rattle.std.proofs.lemmas.List.{length-append, length-replicate, length-drop, get_or-drop, get_or-replicate, get_or-append-add, drop_at}
 use Rattle.codec_terms.specs.declared.packet.HeadRefusal.{HeadRefusal}
-use Rattle.codec_terms.specs.Reading.{done, on_ok, ◌>>=◌}
 use Rattle.codec_terms.specs.PacketHeader.{packed}
 use Rattle.codec_terms.specs.PacketReading.{BitPlace, bit_read, leaf_read_within}
 use Rattle.codec_terms.specs.TagTree.{Tree, FoundTree, leaf_bits, leaf_told, wants, pushed}
 use Rattle.codec_laws.specs.BitsAhead.{IsAhead, Gives, start_at}
-use Rattle.codec_laws.specs.TreeReading.{AreSameTrees, HasLeaf, LeafIsRead}
+use Rattle.codec_laws.specs.TreeReading.{AreSameTrees, HasLeaf}
 use Rattle.codec_laws.proofs.PackedBits.{IsAhead-packed, IsAhead-bit}
 use Rattle.codec_laws.proofs.HeaderNumbers.{Gives-done, Gives-then}
 use Rattle.codec_laws.proofs.TagTrees.{leaf_read-is}
