@@ -1,0 +1,2 @@
+pub mod PackedInto
+pub mod BlockBits

@@ -1,0 +1,41 @@
+use Rattle.std.proofs.Common.{◌≡◌, ◌+◌, ◌*◌, ◌<◌, arith, rules, ap, ◌∙◌, length}
+use Rattle.std.specs.Prelude.{◌^◌}
+use Rattle.codec_terms.specs.Grid.{grid_of, with_grid_item}
+use Rattle.codec_laws.specs.TreeReading.{IsInside}
+use Rattle.tag_tree.proofs.Grids.{inside-placed, place-below, grid_of-set}
+use Rattle.tag_tree.proofs.grid.Grid.set.Goals as goal
+
+pub overflow_mul-y : goal.overflow_mul-y
+overflow_mul-y g c =
+    let s = c.self.inside in
+    let inside : IsInside (grid_of s.columns s.rows s.items.items) c.args.x c.args.y = rw c.self.view_is c.requires.inside in
+    let whole : length s.items.items ≡ s.rows * s.columns = c.self.invariant in
+    let below : c.args.y * s.columns + c.args.x < s.rows * s.columns = place-below s.columns s.rows c.args.x c.args.y (inside-placed s.columns s.rows s.items.items c.args.x c.args.y whole inside) in
+    let fits : c.args.y * s.columns < 2 ^ 64 = omega (arith, s.items.ok.0, s.items.ok.1, s.items.small) in
+    search rules
+
+pub overflow_add-y : goal.overflow_add-y
+overflow_add-y g c =
+    let s = c.self.inside in
+    let inside : IsInside (grid_of s.columns s.rows s.items.items) c.args.x c.args.y = rw c.self.view_is c.requires.inside in
+    let whole : length s.items.items ≡ s.rows * s.columns = c.self.invariant in
+    let below : c.args.y * s.columns + c.args.x < s.rows * s.columns = place-below s.columns s.rows c.args.x c.args.y (inside-placed s.columns s.rows s.items.items c.args.x c.args.y whole inside) in
+    let fits : c.args.y * s.columns + c.args.x < 2 ^ 64 = omega (arith, s.items.ok.0, s.items.ok.1, s.items.small) in
+    search rules
+
+pub index_mut-requires : goal.index_mut-requires
+index_mut-requires g c =
+    let s = c.self.inside in
+    let inside : IsInside (grid_of s.columns s.rows s.items.items) c.args.x c.args.y = rw c.self.view_is c.requires.inside in
+    let whole : length s.items.items ≡ s.rows * s.columns = c.self.invariant in
+    let below : c.args.y * s.columns + c.args.x < s.rows * s.columns = place-below s.columns s.rows c.args.x c.args.y (inside-placed s.columns s.rows s.items.items c.args.x c.args.y whole inside) in
+    rw (s.items.ok.0, whole) below
+
+pub returns : goal.returns
+returns g c =
+    let s = c.self.inside in
+    let inside : IsInside (grid_of s.columns s.rows s.items.items) c.args.x c.args.y = rw c.self.view_is c.requires.inside in
+    let whole : length s.items.items ≡ s.rows * s.columns = c.self.invariant in
+    let placed = inside-placed s.columns s.rows s.items.items c.args.x c.args.y whole inside in
+    grid_of-set s.columns s.rows s.items.items c.args.x c.args.y c.args.item placed
+    ∙ ap (λ grid. with_grid_item grid c.args.x c.args.y c.args.item) c.self.view_is

@@ -1,0 +1,4 @@
+pub mod Sizes
+pub mod Trees
+pub mod Children
+pub mod Asking
