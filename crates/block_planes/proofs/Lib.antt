@@ -1,0 +1,5 @@
+pub mod Marks
+pub mod Steps
+pub mod Columns
+pub mod Planes
+pub mod Begun
