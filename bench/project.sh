@@ -6,7 +6,7 @@ set -euo pipefail
 top=$(cd "$(dirname "$0")/.." && pwd)
 work=$(mktemp -d)
 trap 'rm -rf "$work"' EXIT
-"$top/.ci/copy-crates" "$work" film_plan
+"$top/.ci/copy-crates" "$work" film_plan film_reader
 mkdir -p "$work/crates/large/src"
 echo 'large: film_project film_reader film_printer film_timeline film_plan serde_json io anyhow' >> "$work/crates.txt"
 cat > "$work/crates/large/src/main.rt" <<'RT'
