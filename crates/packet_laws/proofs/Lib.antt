@@ -1,1 +1,2 @@
 mod HeadersReadBack
+mod CodewordsReadBack

@@ -5,7 +5,7 @@ use Rattle.codec_terms.specs.declared.packet.PacketBand.{PacketBand}
 use Rattle.codec_terms.specs.declared.packet.BandShape.{BandShape}
 use Rattle.codec_terms.specs.Passes.{pass_count}
 use Rattle.codec_terms.specs.TagTree.{Tree, new_node}
-use Rattle.codec_terms.specs.PacketReading.{BlockHead, no_head}
+use Rattle.codec_terms.specs.PacketReading.{BlockHead, no_head, no_block}
 use Rattle.codec_laws.specs.TreeReading.{HasLeaf, leaf_of}
 
 -- what a block must keep to where it is included, in a sub-band of mb bit-planes
@@ -38,6 +38,10 @@ head_of block = if block.included then included_head block else no_head
 
 abbrev pub band_heads : PacketBand → List BlockHead
 band_heads band = map head_of band.blocks
+
+-- a block as a reader gives it
+abbrev pub read_of : PacketBlock → PacketBlock
+read_of block = if block.included then block else no_block
 
 -- as many sub-bands as shapes, each in order
 abbrev pub AreInOrder : List BandShape → List PacketBand → Type 0

@@ -2,17 +2,17 @@
 //! one layer). The laws name no code.
 #![tactic(auto)]
 
-ghost use Rattle.std.specs.Prelude.{◌≡◌, ◌≤◌, ◌*◌, ◌<◌, ℕ, Bool, true, List, ◌∷◌, ◌++◌, All, length, map, Some};
+ghost use Rattle.std.specs.Prelude.{◌≡◌, ◌≤◌, ◌+◌, ◌*◌, ◌<◌, ℕ, Bool, true, List, ◌∷◌, ◌++◌, All, length, map, Some, Ok};
 ghost use Rattle.std.specs.List.{range_with_len, flat_map};
 ghost use Rattle.codec_terms.specs.declared.packet.PacketBlock.{PacketBlock};
 ghost use Rattle.codec_terms.specs.declared.packet.PacketBand.{PacketBand};
 ghost use Rattle.codec_terms.specs.declared.packet.BandShape.{BandShape};
 ghost use Rattle.codec_terms.specs.TagTree.{Tree, FoundTree, leaf_value};
-ghost use Rattle.codec_terms.specs.PacketHeader.{pass_bits, length_bits, first_layer, missing_planes, blocks_bits, band_bits};
-ghost use Rattle.codec_terms.specs.PacketReading.{BitPlace, included_read, blocks_read, band_read, bands_read};
+ghost use Rattle.codec_terms.specs.PacketHeader.{pass_bits, length_bits, first_layer, missing_planes, blocks_bits, band_bits, block_codeword};
+ghost use Rattle.codec_terms.specs.PacketReading.{BitPlace, included_read, blocks_read, band_read, bands_read, codewords_read};
 ghost use Rattle.codec_laws.specs.BitsAhead.{IsAhead, Gives};
 ghost use Rattle.codec_laws.specs.TreeReading.{AreSameTrees};
-ghost use Rattle.packet_laws.specs.ReadBack.{AreInOrder, band_heads, IsReadable, HasNewLeaves, IsInOrder, head_of};
+ghost use Rattle.packet_laws.specs.ReadBack.{AreInOrder, band_heads, IsReadable, HasNewLeaves, IsInOrder, head_of, read_of};
 
 /// What a packet's header says is read back: of a block that is included, of blocks in raster order with the trees kept
 /// in step, and of a sub-band.
@@ -33,4 +33,13 @@ pub fn packet_header_laws()
     ensures bands { (bytes : List ℕ) (end : ℕ) (shapes : List BandShape) (bands : List PacketBand) (p : BitPlace) (bits : List Bool)
         → AreInOrder shapes bands → IsAhead bytes p (flat_map band_bits bands ++ bits) end
         → Gives bytes (bands_read bytes shapes) p (map band_heads bands) bits end }
+{}
+
+/// The codewords of a sub-band's blocks, wherever they stand, are read back behind what the header says of them; a
+/// block that isn't included reads as one without planes, passes and codeword.
+pub fn packet_codeword_laws()
+    ensures { (bytes front rest : List ℕ) (blocks : List PacketBlock)
+        → bytes ≡ front ++ (flat_map block_codeword blocks ++ rest)
+        → codewords_read bytes (map head_of blocks) (length front)
+        ≡ Ok (map read_of blocks, length front + length (flat_map block_codeword blocks)) }
 {}
