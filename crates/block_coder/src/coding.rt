@@ -1,7 +1,8 @@
-ghost use Rattle.std.specs.Prelude.{◌≡◌, ◌+◌, ◌*◌, ◌≤◌, ◌<◌, ◌^◌, suc, ℕ, All, IfOk, OnOk, length, unsigned_abs};
+ghost use Rattle.std.specs.Prelude.{◌≡◌, ◌+◌, ◌-◌, ◌*◌, ◌≤◌, ◌<◌, ◌^◌, suc, ℕ, All, IfOk, OnOk, length, unsigned_abs};
 ghost use Rattle.codec_terms.specs.BlockDecisions.{plane_count, decisions};
 ghost use Rattle.codec_terms.specs.Mq.{coded};
 ghost use Rattle.block_planes.specs.Told.{IsBefore};
+ghost use Rattle.mq_coder.specs.Endings.{HasPaused};
 ghost use Rattle.block_coder.specs.Blocks.{block_of};
 ghost use Rattle.block_coder.specs.Codes.{IsCodeOf};
 
@@ -10,7 +11,7 @@ use crate::coded::Coded;
 use block_laws::lower_plane_laws;
 use block_planes::{BitPlane, CodingState, begin, plane_decisions};
 use mast_base::{Bytes, List, NoMemory};
-use mq_coder::{Coder, ending_laws};
+use mq_coder::{Coder, Ending, States, ending_laws};
 use std::alloc::Global;
 
 fn begin_plane(block: &CodeBlock<'_>, index: u32, state: &mut CodingState)
@@ -54,6 +55,29 @@ fn code_plane(
     lower_plane_laws();
     plane_decisions(&plane, state);
     coder.code_all(state.codes())
+}
+
+/// Codes one bit-plane more behind the `done` highest ones, after which the coder has paused: makes `coder`, whatever
+/// it was, that of the decisions with this plane. `state` is room that is lent for the call.
+pub fn code_further(
+    block: &CodeBlock<'_>,
+    done: u32,
+    bytes: &[u8],
+    ending: &Ending,
+    states: &States,
+    state: &mut CodingState,
+    coder: &mut Coder,
+) -> Result<(), NoMemory>
+    requires plane { done < plane_count (block_of block.now) }
+    requires paused { HasPaused (decisions (block_of block.now) (plane_count (block_of block.now) - done))
+        bytes.now ending.now states.now }
+    ensures { OnOk result (coder.new ≡ coded (decisions (block_of block.now)
+        (plane_count (block_of block.now) - suc done))) }
+{
+    let index = block.plane_count() - 1 - done;
+    begin_plane(block, index, state);
+    coder.go_on(bytes, ending, states)?;
+    code_plane(block, index, state, coder)
 }
 
 /// Codes a block down to its lowest bit-plane. `state` and `coder` are room that is lent for the call.

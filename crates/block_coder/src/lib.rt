@@ -8,4 +8,4 @@ mod coding;
 
 pub use block::CodeBlock;
 pub use coded::Coded;
-pub use coding::code_block;
+pub use coding::{code_block, code_further};
