@@ -1,5 +1,5 @@
-//! Reading gives back a written packet, over the standard's definitions alone (ITU-T T.800, Annex B.9 and B.10, with
-//! one layer). The laws name no code.
+//! Reading gives back what a written packet's header tells, and the codewords of a sub-band, over the standard's
+//! definitions alone (ITU-T T.800, Annex B.9 and B.10, with one layer). The laws name no code.
 #![tactic(auto)]
 
 ghost use Rattle.std.specs.Prelude.{◌≡◌, ◌≤◌, ◌+◌, ◌*◌, ◌<◌, ℕ, Bool, true, List, ◌∷◌, ◌++◌, All, length, map, Some, Ok};
@@ -15,7 +15,7 @@ ghost use Rattle.codec_laws.specs.TreeReading.{AreSameTrees};
 ghost use Rattle.packet_laws.specs.ReadBack.{AreInOrder, band_heads, IsReadable, HasNewLeaves, IsInOrder, head_of, read_of};
 
 /// What a packet's header says is read back: of a block that is included, of blocks in raster order with the trees kept
-/// in step, and of a sub-band.
+/// in step, of a sub-band, and of all sub-bands.
 pub fn packet_header_laws()
     ensures included { (bytes : List ℕ) (mb at end : ℕ) (block : PacketBlock) (found : FoundTree) (p : BitPlace) (bits : List Bool)
         → mb ≤ 31 → IsReadable mb block → block.included ≡ true → leaf_value found at ≡ Some block.zero_planes
