@@ -1,98 +1,325 @@
 -- How a run of `make` ends, from how its parts end.
-use Rattle.std.proofs.Common.{◌≡◌, ℕ, ◌+◌, ◌≤◌, Bool, true, false, cond, List, [], length, Some, Result, Ok, Err, refl, ap, subst, ◌∙◌, arith}
-use Rattle.std.specs.Prelude.{IsFalse, IsSome, unwrap_or}
+use Rattle.std.proofs.Common.{◌≡◌, ◌≢◌, ℕ, ◌+◌, ◌≤◌, Bool, true, false, cond, List, length, Some, None, Ok, Err, refl, inl, inr, ap, sym, subst, ◌∙◌}
+use Rattle.std.specs.Prelude.{◌⊎◌, IsFalse, IsSome, IsSomeAnd, IfErr, OnOk, Option, Result}
 use Rattle.film_project.specs.Facts.{ProjectFacts}
-use Rattle.make_engine.proofs.Outcomes.{not_some}
-use Rattle.make_engine.specs.Package.{frames_size, is_built, picture_of}
-use Rattle.mast_world.specs.Content.{Files}
-use Rattle.make_engine.specs.declared.outcome.BadWhy.{BadWhy}
-use Rattle.make_engine.specs.declared.outcome.MakeEnd.{MakeEnd}
-use Rattle.make_engine.specs.declared.outcome.MakeEnd.TheVariants as make_end
-use Rattle.make_engine.specs.declared.outcome.Report.{Report}
-use Rattle.mast_world.specs.Count.{HasRisen}
+use Rattle.film_project.specs.declared.refusal.ProjectRefusal.{ProjectRefusal}
+use Rattle.film_project.specs.declared.refusal.ProjectRefusal.TheVariants as project
+use Rattle.film_plan.specs.declared.refusal.PlanRefusal.TheVariants as short
 use Rattle.film_inputs.specs.Inputs.{planned}
-use Rattle.dcp_commands.specs.Make.{IsEarly, checked, frames_of, input_size, make_status, package_of, with_plan}
+use Rattle.film_inputs.specs.declared.ends.InputEnd.TheVariants as input
+use Rattle.film_inputs.specs.declared.ends.PlanEnd.{PlanEnd}
+use Rattle.film_inputs.specs.declared.ends.PlanEnd.TheVariants as of_plan
+use Rattle.make_engine.proofs.Frames.{counted-counted}
+use Rattle.make_engine.proofs.Outcomes.{frame_cause, frame_left, not_some}
+use Rattle.make_engine.specs.Causes.{IsMakeCause}
+use Rattle.make_engine.specs.Engine.{IsMade}
+use Rattle.make_engine.specs.Package.{is_built, picture_of}
+use Rattle.make_engine.specs.declared.outcome.FrameEnd.{FrameEnd}
+use Rattle.make_engine.specs.declared.outcome.FrameEnd.TheVariants as of_frame
+use Rattle.make_engine.specs.declared.outcome.MakeEnd.{MakeEnd}
+use Rattle.make_engine.specs.declared.outcome.MakeEnd.TheVariants as of_make
+use Rattle.make_engine.specs.declared.outcome.Report.{Report}
+use Rattle.mast_world.specs.Content.{Files}
+use Rattle.mast_world.specs.Count.{HasRisen, counted}
+use Rattle.mast_world.specs.declared.volume.FileId.{FileId}
+use Rattle.dcp_commands.specs.Make.{IsCause, IsMakeStop, IsPackage, IsPlanStop, IsStop, checked, frames_of, of_checked, package_of, project_of, text_of, with_plan}
+use Rattle.dcp_commands.specs.Status.{Answers, plan_status, refused_status, status_of, stopped_status}
 use Rattle.dcp_commands.specs.Words.{MakeWords, make_words}
+use Rattle.dcp_commands.specs.declared.stopped.Stopped.{Stopped}
+use Rattle.dcp_commands.specs.declared.stopped.Stopped.TheVariants as stop
 use Rattle.dcp_commands.specs.declared.status.Status.{Status}
-use Rattle.dcp_commands.specs.declared.status.Status.TheVariants.{InputMissing, InputShort, SourceFault, BadFrame, Unbuilt}
+use Rattle.dcp_commands.specs.declared.status.Status.TheVariants.{Done, Usage, ProjectRefused, SourceFault, SinkFault, NoMemory, Unbuilt}
 
--- words and inputs that give a project leave what isn't built
+-- ---- what the words and the files lead to
+
 pub checked_by : (files : Files) (words : List (List ℕ)) (asked : MakeWords) (project : ProjectFacts) → make_words words ≡ Some asked → planned files asked.project ≡ Ok project → checked files words ≡ with_plan (Ok project)
 checked_by files words asked project accepted is = rw (accepted, is) refl
-
--- what is made is built
-pub built : (b : Bool) (made : Result Report MakeEnd) (report : Report) → made ≡ Ok report → (IsFalse b → made ≡ Err make_end.Unbuilt) → b ≡ true
-built true made report is ends = refl
-built false made report is ends = absurd (cc (is, ends refl))
 
 pub checked_built : (files : Files) (words : List (List ℕ)) (asked : MakeWords) (project : ProjectFacts) → make_words words ≡ Some asked → planned files asked.project ≡ Ok project → is_built project ≡ true → checked files words ≡ Ok project
 checked_built files words asked project accepted is on = checked_by files words asked project accepted is ∙ ap (λ b. cond b (Ok project) (Err Unbuilt)) on
 
-pub package_is : (files : Files) (words : List (List ℕ)) (project : ProjectFacts) (picture : List ℕ) → checked files words ≡ Ok project → picture_of files project ≡ Some picture → package_of files words ≡ Some picture
-package_is files words project picture told is = rw told is
+checked_unbuilt : (files : Files) (words : List (List ℕ)) (asked : MakeWords) (project : ProjectFacts) → make_words words ≡ Some asked → planned files asked.project ≡ Ok project → is_built project ≡ false → checked files words ≡ Err Unbuilt
+checked_unbuilt files words asked project accepted is off = checked_by files words asked project accepted is ∙ ap (λ b. cond b (Ok project) (Err Unbuilt)) off
+
+checked_ends : (files : Files) (words : List (List ℕ)) (asked : MakeWords) (end : PlanEnd) → make_words words ≡ Some asked → planned files asked.project ≡ Err end → checked files words ≡ Err (plan_status end)
+checked_ends files words asked end accepted is = rw (accepted, is) refl
+
+-- no words, no package
+none_ends : (files : Files) (words : List (List ℕ)) → make_words words ≡ None → checked files words ≡ Err Usage
+none_ends files words none = rw none refl
+
+package_none : (files : Files) (words : List (List ℕ)) (status : Status) → checked files words ≡ Err status → IsSome (package_of files words) → ⊥
+package_none files words status is some = not_some (package_of files words) some (rw is refl)
+
+-- what is made is built
+pub built : (b : Bool) (made : Result Report MakeEnd) (report : Report) → made ≡ Ok report → (IsFalse b → made ≡ Err of_make.Unbuilt) → b ≡ true
+built true made report is ends = refl
+built false made report is ends = absurd (cc (is, ends refl))
+
+built_unless : (b : Bool) (end : MakeEnd) → (end ≡ of_make.Unbuilt → ⊥) → (IsFalse b → end ≡ of_make.Unbuilt) → b ≡ true
+built_unless true end other off = refl
+built_unless false end other off = absurd (other (off refl))
 
 pub frames_are : (files : Files) (words : List (List ℕ)) (project : ProjectFacts) → checked files words ≡ Ok project → frames_of files words ≡ Some project.frames
 frames_are files words project told = rw told refl
 
-pub input_is : (files : Files) (words : List (List ℕ)) (asked : MakeWords) (project : ProjectFacts) → make_words words ≡ Some asked → checked files words ≡ Ok project → input_size files words ≡ length (unwrap_or (files asked.project) []) + frames_size files project
-input_is files words asked project accepted told = rw (told, accepted) refl
+pub some_text : (o : Option (List ℕ)) (P : List ℕ → Type 0) → IsSomeAnd o P → (text : List ℕ) × (o ≡ Some text) × P text
+some_text None P is = absurd is
+some_text (Some text) P is = (text, refl, is)
 
--- a project that isn't built ends so
-pub ended_unbuilt : (b : Bool) (project : ProjectFacts) (status : Status) (made : Result Report MakeEnd) (end : MakeEnd) → cond b (Ok project) (Err Unbuilt) ≡ Err status → made ≡ Err end → (IsFalse b → made ≡ Err make_end.Unbuilt) → make_status end ≡ status
-ended_unbuilt true project status made end is was ends = absurd (cc)
-ended_unbuilt false project status made end is was ends = (let same : end ≡ make_end.Unbuilt = cc (was, ends refl) in ap make_status same ∙ cc)
+-- the package of the words' project
+pub packaged :
+    (volume_tells : Type 0) (files : Files) (words : List (List ℕ)) (asked : MakeWords) (project : ProjectFacts) (text picture : List ℕ) (before between now : ℕ) →
+    make_words words ≡ Some asked → checked files words ≡ Ok project → files asked.project ≡ Some text → between ≡ counted before (length text) →
+    IsMade volume_tells files project picture between now → IsPackage volume_tells files words picture before now
+packaged volume_tells files words asked project text picture before between now accepted told there first it =
+    let of_text : text_of files words ≡ Some text = rw accepted there in
+    let of_project : project_of files words ≡ Some project = ap of_checked told in
+    record {
+      made = it.made;
+      size = length text + it.size;
+      is = rw of_project it.shown;
+      read = rw (of_text, of_project, it.read) refl;
+      written = it.written;
+      taken = it.taken ∙ ap (λ n. counted n it.size) first ∙ counted-counted before (length text) it.size;
+    }
 
-pub missing_end : (end : MakeEnd) (name : List ℕ) → make_status end ≡ InputMissing name → end ≡ make_end.InputMissing name
-missing_end (make_end.InputMissing n) name h = ap make_end.InputMissing (cc)
-missing_end (make_end.BadFrame f why) name h = absurd (cc)
-missing_end make_end.SourceFault name h = absurd (cc)
-missing_end make_end.StoreFault name h = absurd (cc)
-missing_end make_end.Unbuilt name h = absurd (cc)
-missing_end make_end.NoMemory name h = absurd (cc)
+-- ---- statuses of what stopped
 
-pub bad_end : (end : MakeEnd) (frame : ℕ) (why : BadWhy) → make_status end ≡ BadFrame frame why → end ≡ make_end.BadFrame frame why
-bad_end (make_end.InputMissing n) frame why h = absurd (cc)
-bad_end (make_end.BadFrame f w) frame why h = cc
-bad_end make_end.SourceFault frame why h = absurd (cc)
-bad_end make_end.StoreFault frame why h = absurd (cc)
-bad_end make_end.Unbuilt frame why h = absurd (cc)
-bad_end make_end.NoMemory frame why h = absurd (cc)
+abbrev IsOrdinary : Status → Type 0
+IsOrdinary Done = ⊥
+IsOrdinary SinkFault = ⊥
+IsOrdinary status = Unit {0}
 
-pub early_end : (end : MakeEnd) → IsEarly (make_status end) → end ≡ make_end.Unbuilt
-early_end (make_end.InputMissing n) early = absurd early
-early_end (make_end.BadFrame f w) early = absurd early
-early_end make_end.SourceFault early = absurd early
-early_end make_end.StoreFault early = absurd early
-early_end make_end.Unbuilt early = refl
-early_end make_end.NoMemory early = absurd early
+-- a refusal is want of memory, or has a status of its own
+told_apart : (refusal : ProjectRefusal) → (refusal ≡ project.NoMemory) ⊎ ((refusal ≢ project.NoMemory) × (refused_status refusal ≡ ProjectRefused refusal))
+told_apart project.NotJson = inr (λ e. cc, refl)
+told_apart (project.NotObject name) = inr (λ e. cc, refl)
+told_apart (project.MissingMember name) = inr (λ e. cc, refl)
+told_apart (project.UnknownMember name) = inr (λ e. cc, refl)
+told_apart (project.WrongKind name) = inr (λ e. cc, refl)
+told_apart (project.OutOfRange name value) = inr (λ e. cc, refl)
+told_apart (project.BadText name at) = inr (λ e. cc, refl)
+told_apart (project.DoubleAsset name) = inr (λ e. cc, refl)
+told_apart (project.NoSuchAsset name) = inr (λ e. cc, refl)
+told_apart (project.TooLong frames) = inr (λ e. cc, refl)
+told_apart (project.FileTooLong bytes) = inr (λ e. cc, refl)
+told_apart project.NoMemory = inl refl
 
-pub fault_end : (end : MakeEnd) → make_status end ≡ SourceFault → end ≡ make_end.SourceFault
-fault_end (make_end.InputMissing n) h = absurd (cc)
-fault_end (make_end.BadFrame f w) h = absurd (cc)
-fault_end make_end.SourceFault h = refl
-fault_end make_end.StoreFault h = absurd (cc)
-fault_end make_end.Unbuilt h = absurd (cc)
-fault_end make_end.NoMemory h = absurd (cc)
+ordinary_refused : (refusal : ProjectRefusal) → IsOrdinary (refused_status refusal)
+ordinary_refused refusal = elim (told_apart refusal) [
+  | inl is ↦ subst (λ refusal. IsOrdinary (refused_status refusal)) (sym is) tt
+  | inr other ↦ subst (λ status. IsOrdinary status) (sym other.1) tt
+]
 
-pub never_short : (end : MakeEnd) (asset : List ℕ) (size need : ℕ) → make_status end ≡ InputShort asset size need → ⊥
-never_short (make_end.InputMissing n) asset size need h = cc
-never_short (make_end.BadFrame f w) asset size need h = cc
-never_short make_end.SourceFault asset size need h = cc
-never_short make_end.StoreFault asset size need h = cc
-never_short make_end.Unbuilt asset size need h = cc
-never_short make_end.NoMemory asset size need h = cc
+ordinary : (stopped : Stopped) → IsOrdinary (stopped_status stopped)
+ordinary stop.Usage = tt
+ordinary (stop.Plan (of_plan.Input (input.Missing name))) = tt
+ordinary (stop.Plan (of_plan.Input input.SourceFault)) = tt
+ordinary (stop.Plan (of_plan.Input input.NoMemory)) = tt
+ordinary (stop.Plan (of_plan.Project refusal)) = ordinary_refused refusal
+ordinary (stop.Plan (of_plan.Plan (short.InputShort asset size need))) = tt
+ordinary (stop.Plan (of_plan.Plan short.NoMemory)) = tt
+ordinary (stop.Make (of_make.Frame (of_frame.Missing name))) = tt
+ordinary (stop.Make (of_make.Frame (of_frame.Bad frame why))) = tt
+ordinary (stop.Make (of_make.Frame of_frame.SourceFault)) = tt
+ordinary (stop.Make (of_make.Frame of_frame.NoMemory)) = tt
+ordinary (stop.Make of_make.StoreFault) = tt
+ordinary (stop.Make of_make.Unbuilt) = tt
+ordinary (stop.Make of_make.NoMemory) = tt
+ordinary stop.NoMemory = tt
 
--- a project without a package isn't built, or its frames can't be shown
-pub package_from : (files : Files) (words : List (List ℕ)) (project : ProjectFacts) (b : Bool) → checked files words ≡ cond b (Ok project) (Err Unbuilt) → IsSome (package_of files words) → (b ≡ true) × IsSome (picture_of files project)
-package_from files words project true told some =
-    let is : package_of files words ≡ picture_of files project = rw told refl in
-    (refl, subst (λ picture. IsSome picture) is some)
-package_from files words project false told some = absurd (not_some (package_of files words) some (rw told refl))
+pub never_done : (stopped : Stopped) → stopped_status stopped ≡ Done → ⊥
+never_done stopped is = subst (λ s. IsOrdinary s) is (ordinary stopped)
 
--- what ends otherwise is built
-pub built_unless : (b : Bool) (made : Result Report MakeEnd) (end : MakeEnd) → made ≡ Err end → (end ≡ make_end.Unbuilt → ⊥) → (IsFalse b → made ≡ Err make_end.Unbuilt) → b ≡ true
-built_unless true made end was other ends = refl
-built_unless false made end was other ends = absurd (other (cc (was, ends refl)))
+-- ---- answers
 
-pub risen_later : (before between now : ℕ) → before ≤ between → HasRisen between now → HasRisen before now
-risen_later before between now kept risen = omega (arith, kept, risen)
+-- a printed answer to what the words and inputs lead to
+pub told_answer : (result status wanted : Status) → Answers result status → (status ≡ wanted) ⊎ (status ≡ SourceFault) ⊎ (status ≡ NoMemory) → (result ≡ SourceFault) ⊎ Answers result wanted
+told_answer result status wanted (inl is) (inl same) = inr (inl (is ∙ same))
+told_answer result status wanted (inl is) (inr (inl same)) = inl (is ∙ same)
+told_answer result status wanted (inl is) (inr (inr same)) = inr (inr (inr (is ∙ same)))
+told_answer result status wanted (inr (inl is)) told = inr (inr (inl is))
+told_answer result status wanted (inr (inr is)) told = inr (inr (inr is))
+
+-- a package has no early end
+pub package_told : (volume_tells : Type 0) (files : Files) (words : List (List ℕ)) (picture : List ℕ) (before now : ℕ) (wanted : Status) → IsPackage volume_tells files words picture before now → checked files words ≡ Err wanted → ⊥
+package_told volume_tells files words picture before now wanted it is =
+    let none : package_of files words ≡ None = rw is refl in cc (none, it.is)
+
+-- ---- causes
+
+-- why no package was made, as it is seen from an earlier state of the source
+pub make_cause :
+    {A B : Type 0} (tells : Type 0) (files : Files) (project : ProjectFacts) (absent faults : A → ℕ) (before between now : A)
+    (reads : B → FileId → List ℕ) (put : B → FileId → ℕ) (store_faults : B → ℕ) (volume volume_now : B) (end : MakeEnd) →
+    absent before ≤ absent between → faults before ≤ faults between →
+    IsMakeCause tells files project absent faults between now reads put store_faults volume volume_now end →
+    IsMakeCause tells files project absent faults before now reads put store_faults volume volume_now end
+make_cause tells files project absent faults before between now reads put store_faults volume volume_now (of_make.Frame end) fewer less is =
+    frame_cause tells files project absent faults before between now end fewer less is
+make_cause tells files project absent faults before between now reads put store_faults volume volume_now of_make.StoreFault fewer less is = is
+make_cause tells files project absent faults before between now reads put store_faults volume volume_now of_make.Unbuilt fewer less is = is
+make_cause tells files project absent faults before between now reads put store_faults volume volume_now of_make.NoMemory fewer less is = is
+
+module _ {A B C : Type 0} (tells : Type 0) (files : Files) (words : List (List ℕ)) (absent faults : A → ℕ) (before now : A)
+    (reads : B → FileId → List ℕ) (put : B → FileId → ℕ) (store_faults : B → ℕ) (volume volume_now : B) (sink_faults : C → ℕ) (out out_now : C) where
+  abbrev Stops : Stopped → Type 0
+  Stops = IsStop tells files words absent faults before now reads put store_faults volume volume_now
+
+  abbrev PlanStops : PlanEnd → Type 0
+  PlanStops = IsPlanStop tells files words absent faults before now reads put store_faults volume volume_now
+
+  abbrev MakeStops : MakeEnd → Type 0
+  MakeStops = IsMakeStop tells files words absent faults before now reads put store_faults volume volume_now
+
+  abbrev Causes : Status → Type 0
+  Causes = IsCause tells files words absent faults before now reads put store_faults volume volume_now sink_faults out out_now
+
+  refused_cause : (refusal : ProjectRefusal) → PlanStops (of_plan.Project refusal) → Causes (refused_status refusal)
+  refused_cause refusal is = elim (told_apart refusal) [
+    | inl memory ↦ subst (λ refusal. Causes (refused_status refusal)) (sym memory) tt
+    | inr other ↦ subst Causes (sym other.1)
+        (λ told. checked_ends files words is.asked (of_plan.Project refusal) is.accepted (is.cause other.0 told) ∙ ap Err other.1, is.unwritten)
+  ]
+
+  stop_built : (end : MakeEnd) → (end ≡ of_make.Unbuilt → ⊥) → (is : MakeStops end) → tells → checked files words ≡ Ok is.project
+  stop_built end other is told =
+      checked_built files words is.asked is.project is.accepted (is.told told) (built_unless (is_built is.project) end other is.off)
+
+  pub stop_cause : (stopped : Stopped) → Stops stopped → Causes (stopped_status stopped)
+  stop_cause stop.Usage is = is
+  stop_cause (stop.Plan (of_plan.Input (input.Missing name))) is = (
+    is.cause.1,
+    inl (
+      record { asked = is.asked; accepted = is.accepted; named = is.cause.0.0 },
+      (λ told. checked_ends files words is.asked (of_plan.Input (input.Missing name)) is.accepted (is.cause.0.1 told), is.unwritten),
+    ),
+  )
+  stop_cause (stop.Plan (of_plan.Input input.SourceFault)) is = is.cause
+  stop_cause (stop.Plan (of_plan.Input input.NoMemory)) is = tt
+  stop_cause (stop.Plan (of_plan.Project refusal)) is = refused_cause refusal is
+  stop_cause (stop.Plan (of_plan.Plan (short.InputShort asset size need))) is =
+      (is.cause.0, (λ told. checked_ends files words is.asked (of_plan.Plan (short.InputShort asset size need)) is.accepted (is.cause.1 told), is.unwritten))
+  stop_cause (stop.Plan (of_plan.Plan short.NoMemory)) is = tt
+  stop_cause (stop.Make (of_make.Frame (of_frame.Missing name))) is =
+      (is.cause.1, inr (record { project = is.project; rules = is.rules; told = stop_built (of_make.Frame (of_frame.Missing name)) (λ e. cc) is; missing = is.cause.0 }))
+  stop_cause (stop.Make (of_make.Frame (of_frame.Bad frame why))) is =
+      record { project = is.project; rules = is.rules; told = stop_built (of_make.Frame (of_frame.Bad frame why)) (λ e. cc) is; bad = is.cause }
+  stop_cause (stop.Make (of_make.Frame of_frame.SourceFault)) is = is.cause
+  stop_cause (stop.Make (of_make.Frame of_frame.NoMemory)) is = tt
+  stop_cause (stop.Make of_make.StoreFault) is = is.cause
+  stop_cause (stop.Make of_make.Unbuilt) is =
+      (λ told. checked_unbuilt files words is.asked is.project is.accepted (is.told told) is.cause.0, is.cause.1)
+  stop_cause (stop.Make of_make.NoMemory) is = tt
+  stop_cause stop.NoMemory is = tt
+
+  -- what is printed is answered
+  pub answered : (result status : Status) → Answers result status → (result ≡ SinkFault → HasRisen (sink_faults out) (sink_faults out_now)) → Causes status → Causes result
+  answered result status (inl is) risen cause = subst Causes (sym is) cause
+  answered result status (inr (inl is)) risen cause = subst Causes (sym is) (risen is)
+  answered result status (inr (inr is)) risen cause = subst Causes (sym is) tt
+
+  -- where words and inputs end the command early
+  abbrev Told : Status → Status → Type 0
+  Told status wanted = (status ≡ wanted) ⊎ (status ≡ SourceFault) ⊎ (status ≡ NoMemory)
+
+  early_told : (status first wanted : Status) → status ≡ first → checked files words ≡ Err first → checked files words ≡ Err wanted → Told status wanted
+  early_told status first wanted same is wants = inl (cc (same, is, wants))
+
+  refused_told : (refusal : ProjectRefusal) (wanted : Status) → (refusal ≢ project.NoMemory → checked files words ≡ Err (refused_status refusal)) → checked files words ≡ Err wanted → Told (refused_status refusal) wanted
+  refused_told refusal wanted is wants = elim (told_apart refusal) [
+    | inl memory ↦ inr (inr (ap refused_status memory))
+    | inr other ↦ early_told _ _ wanted refl (is other.0) wants
+  ]
+
+  pub stop_told : (stopped : Stopped) (wanted : Status) → tells → Stops stopped → checked files words ≡ Err wanted → Told (stopped_status stopped) wanted
+  stop_told stop.Usage wanted told is wants = early_told Usage Usage wanted refl (none_ends files words is.0) wants
+  stop_told (stop.Plan (of_plan.Input (input.Missing name))) wanted told is wants =
+      early_told _ _ wanted refl (checked_ends files words is.asked (of_plan.Input (input.Missing name)) is.accepted (is.cause.0.1 told)) wants
+  stop_told (stop.Plan (of_plan.Input input.SourceFault)) wanted told is wants = inr (inl refl)
+  stop_told (stop.Plan (of_plan.Input input.NoMemory)) wanted told is wants = inr (inr refl)
+  stop_told (stop.Plan (of_plan.Project refusal)) wanted told is wants =
+      refused_told refusal wanted (λ other. checked_ends files words is.asked (of_plan.Project refusal) is.accepted (is.cause other told)) wants
+  stop_told (stop.Plan (of_plan.Plan (short.InputShort asset size need))) wanted told is wants =
+      early_told _ _ wanted refl (checked_ends files words is.asked (of_plan.Plan (short.InputShort asset size need)) is.accepted (is.cause.1 told)) wants
+  stop_told (stop.Plan (of_plan.Plan short.NoMemory)) wanted told is wants = inr (inr refl)
+  stop_told (stop.Make (of_make.Frame end)) wanted told is wants = absurd (cc (stop_built (of_make.Frame end) (λ e. cc) is told, wants))
+  stop_told (stop.Make of_make.StoreFault) wanted told is wants = absurd (cc (stop_built of_make.StoreFault (λ e. cc) is told, wants))
+  stop_told (stop.Make of_make.Unbuilt) wanted told is wants =
+      early_told Unbuilt Unbuilt wanted refl (checked_unbuilt files words is.asked is.project is.accepted (is.told told) is.cause.0) wants
+  stop_told (stop.Make of_make.NoMemory) wanted told is wants = inr (inr refl)
+  stop_told stop.NoMemory wanted told is wants = inr (inr refl)
+
+  -- where there is a package and no count of faults rose, want of memory is left
+  early_left : (first status : Status) → checked files words ≡ Err first → IsSome (package_of files words) → status ≡ NoMemory
+  early_left first status is some = absurd (package_none files words first is some)
+
+  refused_left : (refusal : ProjectRefusal) → (refusal ≢ project.NoMemory → checked files words ≡ Err (refused_status refusal)) → IsSome (package_of files words) → refused_status refusal ≡ NoMemory
+  refused_left refusal is some = elim (told_apart refusal) [
+    | inl memory ↦ ap refused_status memory
+    | inr other ↦ early_left _ _ (is other.0) some
+  ]
+
+  frame_end_left : (end : FrameEnd) → end ≡ of_frame.NoMemory → stopped_status (stop.Make (of_make.Frame end)) ≡ NoMemory
+  frame_end_left end is = ap (λ end. stopped_status (stop.Make (of_make.Frame end))) is
+
+  pub stop_left :
+      (stopped : Stopped) → tells → IsSome (package_of files words) → ¬ HasRisen (faults before) (faults now) → ¬ HasRisen (store_faults volume) (store_faults volume_now) →
+      Stops stopped → stopped_status stopped ≡ NoMemory
+  stop_left stop.Usage told some calm still is = early_left Usage Usage (none_ends files words is.0) some
+  stop_left (stop.Plan (of_plan.Input (input.Missing name))) told some calm still is =
+      early_left _ _ (checked_ends files words is.asked (of_plan.Input (input.Missing name)) is.accepted (is.cause.0.1 told)) some
+  stop_left (stop.Plan (of_plan.Input input.SourceFault)) told some calm still is = absurd (calm is.cause)
+  stop_left (stop.Plan (of_plan.Input input.NoMemory)) told some calm still is = refl
+  stop_left (stop.Plan (of_plan.Project refusal)) told some calm still is =
+      refused_left refusal (λ other. checked_ends files words is.asked (of_plan.Project refusal) is.accepted (is.cause other told)) some
+  stop_left (stop.Plan (of_plan.Plan (short.InputShort asset size need))) told some calm still is =
+      early_left _ _ (checked_ends files words is.asked (of_plan.Plan (short.InputShort asset size need)) is.accepted (is.cause.1 told)) some
+  stop_left (stop.Plan (of_plan.Plan short.NoMemory)) told some calm still is = refl
+  stop_left (stop.Make (of_make.Frame end)) told some calm still is =
+      let whole = stop_built (of_make.Frame end) (λ e. cc) is told in
+      let same : package_of files words ≡ picture_of files is.project = rw whole refl in
+      frame_end_left end (frame_left told files is.project absent faults before now end (subst (λ picture. IsSome picture) same some) calm is.cause)
+  stop_left (stop.Make of_make.StoreFault) told some calm still is = absurd (still is.cause)
+  stop_left (stop.Make of_make.Unbuilt) told some calm still is =
+      early_left Unbuilt Unbuilt (checked_unbuilt files words is.asked is.project is.accepted (is.told told) is.cause.0) some
+  stop_left (stop.Make of_make.NoMemory) told some calm still is = refl
+  stop_left stop.NoMemory told some calm still is = refl
+
+  -- ---- what an outcome and its printed answer lead to
+
+  abbrev Rose : Type 0
+  Rose = HasRisen (sink_faults out) (sink_faults out_now)
+
+  pub outcome_cause :
+      {T : Type 0} (result : Status) (outcome : Result T Stopped) → Answers result (status_of outcome) →
+      OnOk outcome (faults now ≡ faults before) → OnOk outcome (store_faults volume_now ≡ store_faults volume) → IfErr outcome Stops →
+      (result ≡ SinkFault → Rose) → (result ≢ SinkFault → sink_faults out_now ≡ sink_faults out) → Causes result
+  outcome_cause result (Ok x) (inl is) source store stops risen same = subst Causes (sym is) (source, store, same (λ fault. cc (is, fault)))
+  outcome_cause result (Ok x) (inr (inl is)) source store stops risen same = subst Causes (sym is) (risen is)
+  outcome_cause result (Ok x) (inr (inr is)) source store stops risen same = subst Causes (sym is) tt
+  outcome_cause result (Err stopped) answer source store stops risen same =
+      answered result (stopped_status stopped) answer risen (stop_cause stopped stops)
+
+  pub outcome_told :
+      {T : Type 0} (volume_tells : Type 0) (picture : List ℕ) (taken_before taken_now : ℕ) (result wanted : Status) (outcome : Result T Stopped) → tells → checked files words ≡ Err wanted →
+      Answers result (status_of outcome) → OnOk outcome (IsPackage volume_tells files words picture taken_before taken_now) → IfErr outcome Stops →
+      (result ≡ SourceFault) ⊎ Answers result wanted
+  outcome_told volume_tells picture taken_before taken_now result wanted (Ok x) told wants answer made stops =
+      absurd (package_told volume_tells files words picture taken_before taken_now wanted made wants)
+  outcome_told volume_tells picture taken_before taken_now result wanted (Err stopped) told wants answer made stops =
+      told_answer result (stopped_status stopped) wanted answer
+      (stop_told stopped wanted told stops wants)
+
+  pub outcome_left :
+      {T : Type 0} (result : Status) (outcome : Result T Stopped) → tells → IsSome (package_of files words) → ¬ HasRisen (faults before) (faults now) →
+      ¬ HasRisen (store_faults volume) (store_faults volume_now) → ¬ Rose → Answers result (status_of outcome) → (result ≡ SinkFault → Rose) → IfErr outcome Stops →
+      (result ≡ Done) ⊎ (result ≡ NoMemory)
+  outcome_left result (Ok x) told some calm still quiet (inl is) risen stops = inl is
+  outcome_left result (Ok x) told some calm still quiet (inr (inl is)) risen stops = absurd (quiet (risen is))
+  outcome_left result (Ok x) told some calm still quiet (inr (inr is)) risen stops = inr is
+  outcome_left result (Err stopped) told some calm still quiet (inl is) risen stops =
+      inr (is ∙ stop_left stopped told some calm still stops)
+  outcome_left result (Err stopped) told some calm still quiet (inr (inl is)) risen stops = absurd (quiet (risen is))
+  outcome_left result (Err stopped) told some calm still quiet (inr (inr is)) risen stops = inr is

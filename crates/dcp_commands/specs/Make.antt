@@ -1,37 +1,28 @@
--- How `make` ends, and why.
-use Rattle.std.specs.Prelude.{◌≡◌, ◌⊎◌, ℕ, ◌+◌, List, [], length, if◌then◌else◌, Option, Some, None, option_map, option_and_then, unwrap_or, Result, Ok, Err}
-use Rattle.std.specs.Option.{option_map_or}
+-- What `make` makes, and why it ends so, status by status.
+use Rattle.std.specs.Prelude.{◌≡◌, ◌⊎◌, ℕ, ◌+◌, ◌<◌, List, length, if◌then◌else◌, IsFalse, Option, Some, None, option_map, option_and_then, Result, Ok, Err, ⊤}
 use Rattle.film_project.specs.Facts.{ProjectFacts}
-use Rattle.make_engine.specs.Causes.{IsBadFrame, IsMissingFrame}
+use Rattle.film_project.specs.Rules.{IsProject}
+use Rattle.film_inputs.specs.Causes.{IsInputName, IsPlanCause}
+use Rattle.film_inputs.specs.Inputs.{planned}
+use Rattle.film_inputs.specs.declared.ends.PlanEnd.{PlanEnd}
+use Rattle.make_engine.specs.Causes.{IsBadFrame, IsMakeCause, IsMissingFrame}
 use Rattle.make_engine.specs.Package.{frames_size, is_built, picture_of}
-use Rattle.mast_world.specs.Content.{Files}
 use Rattle.make_engine.specs.declared.outcome.BadWhy.{BadWhy}
 use Rattle.make_engine.specs.declared.outcome.MakeEnd.{MakeEnd}
-use Rattle.make_engine.specs.declared.outcome.MakeEnd.TheVariants as make_end
-use Rattle.film_inputs.specs.Inputs.{planned}
+use Rattle.make_engine.specs.declared.outcome.MakeEnd.TheVariants as of_make
+use Rattle.mast_world.specs.Changes.{IsUnwritten}
+use Rattle.mast_world.specs.Content.{Files}
+use Rattle.mast_world.specs.Count.{HasRisen, counted}
+use Rattle.mast_world.specs.declared.volume.FileId.{FileId}
 use Rattle.dcp_commands.specs.Line.{done_text}
+use Rattle.dcp_commands.specs.Status.{plan_status}
 use Rattle.dcp_commands.specs.Words.{MakeWords, make_words}
-use Rattle.film_inputs.specs.declared.inputs.PlanEnd.{PlanEnd}
-use Rattle.film_inputs.specs.declared.inputs.PlanEnd.TheVariants as plan_end
+use Rattle.dcp_commands.specs.declared.stopped.Stopped.{Stopped}
+use Rattle.dcp_commands.specs.declared.stopped.Stopped.TheVariants as stop
 use Rattle.dcp_commands.specs.declared.status.Status.{Status}
 use Rattle.dcp_commands.specs.declared.status.Status.TheVariants.{Done, Usage, ProjectRefused, InputMissing, InputShort, SourceFault, StoreFault, SinkFault, NoMemory, BadFrame, Unbuilt}
 
--- the status of a project without a plan
-abbrev pub plan_status : PlanEnd → Status
-plan_status (plan_end.InputMissing name) = InputMissing name
-plan_status (plan_end.ProjectRefused refusal) = ProjectRefused refusal
-plan_status (plan_end.InputShort asset size need) = InputShort asset size need
-plan_status plan_end.SourceFault = SourceFault
-plan_status plan_end.NoMemory = NoMemory
-
--- the status of a package that wasn't made
-abbrev pub make_status : MakeEnd → Status
-make_status (make_end.InputMissing name) = InputMissing name
-make_status (make_end.BadFrame frame why) = BadFrame frame why
-make_status make_end.SourceFault = SourceFault
-make_status make_end.StoreFault = StoreFault
-make_status make_end.Unbuilt = Unbuilt
-make_status make_end.NoMemory = NoMemory
+-- ---- what the words and the files lead to
 
 -- what isn't built yet is told behind the inputs
 abbrev pub with_plan : Result ProjectFacts PlanEnd → Result ProjectFacts Status
@@ -60,43 +51,97 @@ package_of files words = option_and_then (picture_of files) (project_of files wo
 abbrev pub frames_of : Files → List (List ℕ) → Option ℕ
 frames_of files words = option_map (λ project. project.frames) (project_of files words)
 
+-- the text of the project file that they name
+abbrev pub text_of : Files → List (List ℕ) → Option (List ℕ)
+text_of files words = option_and_then (λ asked. files asked.project) (make_words words)
+
+-- how many bytes of input the package has: the project file and those of the frames
+abbrev pub input_size : Files → List (List ℕ) → Option ℕ
+input_size files words =
+    option_and_then (λ text. option_map (λ n. length text + n) (option_and_then (frames_size files) (project_of files words))) (text_of files words)
+
+-- the package was made, and all its input was read
+pub record IsPackage (volume_tells : Type 0) (files : Files) (words : List (List ℕ)) (picture : List ℕ) (taken_before taken_now : ℕ) : Type 0 where
+  pub made : List ℕ
+  pub size : ℕ
+  pub is : package_of files words ≡ Some made
+  pub read : input_size files words ≡ Some size
+  pub written : volume_tells → picture ≡ made
+  pub taken : taken_now ≡ counted taken_before size
+
 -- the text of `Done`: that of the project's frames, of which none was kept
 pub record IsMadeText (tells : Type 0) (files : Files) (words : List (List ℕ)) (text : List ℕ) : Type 0 where
   pub frames : ℕ
   pub is : text ≡ done_text frames 0
   pub told : tells → frames_of files words ≡ Some frames
 
--- how many bytes of input there are: the project file and those of the frames
-abbrev pub input_size : Files → List (List ℕ) → ℕ
-input_size files words =
-    option_map_or (λ asked. length (unwrap_or (files asked.project) [])) (make_words words) 0
-    + option_map_or (frames_size files) (project_of files words) 0
+-- ---- causes
 
--- these come only before a frame is read
-abbrev pub IsEarly : Status → Type 0
-IsEarly Usage = Unit {0}
-IsEarly (ProjectRefused refusal) = Unit {0}
-IsEarly (InputShort asset size need) = Unit {0}
-IsEarly Unbuilt = Unit {0}
-IsEarly status = ⊥
+-- the words' project, or a single file of a project that keeps the rules
+pub record IsNamedInput (words : List (List ℕ)) (name : List ℕ) : Type 0 where
+  pub asked : MakeWords
+  pub accepted : make_words words ≡ Some asked
+  pub named : IsInputName asked.project name
 
 -- a fresh frame of the project names a file that isn't there
 pub record IsMissingInProject (tells : Type 0) (files : Files) (words : List (List ℕ)) (name : List ℕ) : Type 0 where
   pub project : ProjectFacts
+  pub rules : IsProject project
   pub told : tells → checked files words ≡ Ok project
   pub missing : IsMissingFrame tells files project name
 
 -- a fresh frame of the project breaks its form
 pub record IsBadInProject (tells : Type 0) (files : Files) (words : List (List ℕ)) (frame : ℕ) (why : BadWhy) : Type 0 where
   pub project : ProjectFacts
+  pub rules : IsProject project
   pub told : tells → checked files words ≡ Ok project
   pub bad : IsBadFrame tells files project frame why
 
--- the answer, but where printing failed, and for want of memory
-abbrev pub Answers : Status → Status → Type 0
-Answers result status = (result ≡ status) ⊎ (result ≡ SinkFault) ⊎ (result ≡ NoMemory)
+-- Devices are given by what they tell and count, and by their states before and now.
+module _ {A B : Type 0} (tells : Type 0) (files : Files) (words : List (List ℕ))
+    (absent faults : A → ℕ) (before now : A)
+    (reads : B → FileId → List ℕ) (put : B → FileId → ℕ) (store_faults : B → ℕ) (volume volume_now : B) where
+  -- before a frame is read it ends so, and nothing was written
+  abbrev pub IsEarly : Status → Type 0
+  IsEarly status = (tells → checked files words ≡ Err status) × IsUnwritten reads put volume volume_now
 
--- the status of an outcome
-abbrev pub status_of : {T : Type 0} → Result T Status → Status
-status_of (Ok made) = Done
-status_of (Err status) = status
+  -- why `make` ended so; {C} is the sink
+  abbrev pub IsCause : {C : Type 0} → (C → ℕ) → C → C → Status → Type 0
+  IsCause sink_faults out out_now Done =
+      (faults now ≡ faults before) × (store_faults volume_now ≡ store_faults volume) × (sink_faults out_now ≡ sink_faults out)
+  IsCause sink_faults out out_now Usage = (make_words words ≡ None) × IsUnwritten reads put volume volume_now
+  IsCause sink_faults out out_now (ProjectRefused refusal) = IsEarly (ProjectRefused refusal)
+  IsCause sink_faults out out_now (InputMissing name) =
+      HasRisen (absent before) (absent now)
+      × ((IsNamedInput words name × IsEarly (InputMissing name)) ⊎ IsMissingInProject tells files words name)
+  IsCause sink_faults out out_now (InputShort asset size need) = (size < need) × IsEarly (InputShort asset size need)
+  IsCause sink_faults out out_now SourceFault = HasRisen (faults before) (faults now)
+  IsCause sink_faults out out_now StoreFault = HasRisen (store_faults volume) (store_faults volume_now)
+  IsCause sink_faults out out_now SinkFault = HasRisen (sink_faults out) (sink_faults out_now)
+  IsCause sink_faults out out_now NoMemory = ⊤
+  IsCause sink_faults out out_now (BadFrame frame why) = IsBadInProject tells files words frame why
+  IsCause sink_faults out out_now Unbuilt = IsEarly Unbuilt
+
+  -- the plan of the words' project ended so
+  pub record IsPlanStop (end : PlanEnd) : Type 0 where
+    pub asked : MakeWords
+    pub accepted : make_words words ≡ Some asked
+    pub cause : IsPlanCause tells files asked.project absent faults before now end
+    pub unwritten : IsUnwritten reads put volume volume_now
+
+  -- the package of the words' project ended so
+  pub record IsMakeStop (end : MakeEnd) : Type 0 where
+    pub asked : MakeWords
+    pub project : ProjectFacts
+    pub accepted : make_words words ≡ Some asked
+    pub rules : IsProject project
+    pub told : tells → planned files asked.project ≡ Ok project
+    pub off : IsFalse (is_built project) → end ≡ of_make.Unbuilt
+    pub cause : IsMakeCause tells files project absent faults before now reads put store_faults volume volume_now end
+
+  -- why there is no text of `Done`
+  abbrev pub IsStop : Stopped → Type 0
+  IsStop stop.Usage = (make_words words ≡ None) × IsUnwritten reads put volume volume_now
+  IsStop (stop.Plan end) = IsPlanStop end
+  IsStop (stop.Make end) = IsMakeStop end
+  IsStop stop.NoMemory = ⊤

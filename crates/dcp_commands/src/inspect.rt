@@ -1,13 +1,15 @@
-ghost use Rattle.std.specs.Prelude.{◌≡◌, ◌≢◌, ◌⊎◌, ◌≤◌, ◌<◌, ℕ, List, Some, None, Ok, Err, IfOk, OnOk, IsOk, map, string_bytes};
+ghost use Rattle.std.specs.Prelude.{◌≡◌, ◌⊎◌, None, Err, IfOk, IfErr, OnOk, IsOk, map, string_bytes};
+ghost use Rattle.mast_world.specs.Changes.{IsSameSource};
 ghost use Rattle.mast_world.specs.Count.{HasRisen};
 ghost use Rattle.dcp_commands.specs.Line.{IsPrinted};
-ghost use Rattle.dcp_commands.specs.Make.{Answers};
-ghost use Rattle.dcp_commands.specs.Plan.{IsPlanEnd, IsPlanText, checked_plan, status_in};
+ghost use Rattle.dcp_commands.specs.Plan.{IsCause, IsPlanText, IsStop, checked_plan, status_in};
+ghost use Rattle.dcp_commands.specs.Status.{Answers};
 ghost use Rattle.dcp_commands.specs.Words.{plan_words};
 
 use crate::line::print;
 use crate::plan_text::plan_text;
 use crate::status::Status;
+use crate::stopped::Stopped;
 use crate::words::plan_words;
 use film_inputs::read_plan;
 use mast_base::Bytes;
@@ -15,20 +17,16 @@ use mast_world::{Sink, Source};
 use std::alloc::Global;
 
 /// What `plan` prints of the project that the words name.
-fn show_plan<S: Source>(alloc: Global, words: &[String], source: &mut S) -> Result<Bytes, Status>
+fn show_plan<S: Source>(alloc: Global, words: &[String], source: &mut S) -> Result<Bytes, Stopped>
     ensures text { IfOk result (IsPlanText S.tells (S.file source.old) (map string_bytes words.now)) }
-    ensures ended { (status : Status) → result ≡ Err status → S.tells → status ≢ Status.SourceFault
-        → status ≢ Status.NoMemory → checked_plan (S.file source.old) (map string_bytes words.now) ≡ Err status }
-    ensures usage { result ≡ Err Status.Usage → plan_words (map string_bytes words.now) ≡ None }
-    ensures refused { plan_words (map string_bytes words.now) ≡ None → result ≡ Err Status.Usage }
-    ensures missing_count { (name : List ℕ) → result ≡ Err (Status.InputMissing name)
-        → HasRisen (S.absent source.old) (S.absent source.new) }
-    ensures short { (asset : List ℕ) (size need : ℕ) → result ≡ Err (Status.InputShort asset size need) → size < need }
-    ensures source_fault { result ≡ Err Status.SourceFault → HasRisen (S.faults source.old) (S.faults source.new) }
-    ensures of_plan { (status : Status) → result ≡ Err status → IsPlanEnd status }
+    ensures refused { plan_words (map string_bytes words.now) ≡ None → result ≡ Err Stopped.Usage }
+    ensures ended { IfErr result (IsStop S.tells (S.file source.old) (map string_bytes words.now)
+        S.absent S.faults source.old source.new) }
+    ensures untroubled { OnOk result (S.faults source.new ≡ S.faults source.old) }
+    ensures kept { IsSameSource S.file S.absent S.taken S.faults source.old source.new }
 {
     let Some(project) = plan_words(words) else {
-        return Err(Status::Usage);
+        return Err(Stopped::Usage);
     };
     let plan = read_plan(alloc, source, project.as_bytes())?;
     Ok(plan_text(alloc, &plan)?)
@@ -42,20 +40,15 @@ pub fn run<S: Source, O: Sink>(
     source: &mut S,
     out: &mut O,
 ) -> Status
-    // Words, project and inputs decide: the first cause in their order, or the plan.
+    // Why it ended so, status by status; and the other way: words, project and inputs decide, the first cause in their
+    // order, or the plan.
+    ensures cause { IsCause S.tells (S.file source.old) (map string_bytes words.now)
+        S.absent S.faults source.old source.new O.faults out.old out.new result }
     ensures told { S.tells
         → (result ≡ Status.SourceFault)
         ⊎ Answers result (status_in (checked_plan (S.file source.old) (map string_bytes words.now))) }
-    ensures usage { result ≡ Status.Usage → plan_words (map string_bytes words.now) ≡ None }
     ensures refused { plan_words (map string_bytes words.now) ≡ None → Answers result Status.Usage }
-    ensures missing_count { (name : List ℕ) → result ≡ Status.InputMissing name
-        → HasRisen (S.absent source.old) (S.absent source.new) }
-    ensures short { (asset : List ℕ) (size need : ℕ) → result ≡ Status.InputShort asset size need → size < need }
-
-    // A fault is a device's.
-    ensures source_fault { result ≡ Status.SourceFault → HasRisen (S.faults source.old) (S.faults source.new) }
-    ensures sink_fault { result ≡ Status.SinkFault → HasRisen (O.faults out.old) (O.faults out.new) }
-    ensures no_other { (result ≡ Status.Done) ⊎ (result ≡ Status.SinkFault) ⊎ IsPlanEnd result }
+    ensures kept { IsSameSource S.file S.absent S.taken S.faults source.old source.new }
 
     // What is printed: the plan's lines, or the status' line.
     ensures printed { O.tells

@@ -6,6 +6,7 @@ mod line;
 mod make;
 mod plan_text;
 mod status;
+mod stopped;
 mod words;
 
 pub use inspect::run;

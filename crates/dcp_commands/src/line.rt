@@ -1,11 +1,12 @@
-ghost use Rattle.std.specs.Prelude.{◌≡◌, ◌≢◌, ◌++◌, Ok, Err, codes, string_bytes, IfOk};
+ghost use Rattle.std.specs.Prelude.{◌≡◌, ◌≢◌, ◌++◌, Ok, codes, string_bytes, IfOk};
 ghost use Rattle.std.specs.Fmt.{decimal};
 ghost use Rattle.make_engine.specs.declared.outcome.BadWhy.TheVariants.{Limit};
 ghost use Rattle.mast_world.specs.Count.{HasRisen};
 ghost use Rattle.dcp_commands.specs.Line.{done_text, why_text, status_text, line_of, IsPrinted};
-ghost use Rattle.dcp_commands.specs.Make.{Answers, status_of};
+ghost use Rattle.dcp_commands.specs.Status.{Answers, status_of};
 
 use crate::status::Status;
+use crate::stopped::Stopped;
 use film_printer::refusal_text;
 use make_engine::{BadWhy, Report};
 use mast_base::{Bytes, NoMemory};
@@ -87,16 +88,15 @@ fn line_of(alloc: Global, status: &Status, done: &[u8]) -> Result<Vec<u8>, NoMem
 
 /// Prints how a command ended: the text that was made, or the line of the status that kept it from
 /// being made. It answers that status, or why it couldn't be printed.
-pub(crate) fn print<O: Sink>(alloc: Global, outcome: Result<Bytes, Status>, out: &mut O) -> Status
-    requires not_done { outcome ≢ Err Status.Done }
-    requires not_sink_fault { outcome ≢ Err Status.SinkFault }
+pub(crate) fn print<O: Sink>(alloc: Global, outcome: Result<Bytes, Stopped>, out: &mut O) -> Status
     ensures answer { Answers result (status_of outcome) }
     ensures printed { O.tells → IsPrinted (λ text. outcome ≡ Ok text) result (O.written out.old) (O.written out.new) }
     ensures sink_fault { result ≡ Status.SinkFault → HasRisen (O.faults out.old) (O.faults out.new) }
+    ensures untroubled { result ≢ Status.SinkFault → O.faults out.new ≡ O.faults out.old }
 {
     let (status, done) = match outcome {
         Ok(done) => (Status::Done, done),
-        Err(status) => (status, Bytes::new(alloc)),
+        Err(stopped) => (Status::from(stopped), Bytes::new(alloc)),
     };
     print_line(alloc, status, done.as_slice(), out)
 }
@@ -109,6 +109,7 @@ fn print_line<O: Sink>(alloc: Global, status: Status, done: &[u8], out: &mut O) 
     ensures printed { O.tells
         → IsPrinted (λ text. (status ≡ Status.Done) × (text ≡ done.now)) result (O.written out.old) (O.written out.new) }
     ensures sink_fault { result ≡ Status.SinkFault → HasRisen (O.faults out.old) (O.faults out.new) }
+    ensures untroubled { result ≢ Status.SinkFault → O.faults out.new ≡ O.faults out.old }
 {
     let Ok(line) = line_of(alloc, &status, done) else {
         return Status::NoMemory;

@@ -1,15 +1,16 @@
-ghost use Rattle.std.specs.Prelude.{◌≡◌, ◌≢◌, ◌⊎◌, ◌≤◌, ◌<◌, ℕ, List, Some, None, Err, IfOk, OnOk, IsSome, length, map, string_bytes};
-ghost use Rattle.make_engine.specs.Causes.{IsUnwritten};
-ghost use Rattle.make_engine.specs.declared.outcome.BadWhy.{BadWhy};
+ghost use Rattle.std.specs.Prelude.{◌≡◌, ◌⊎◌, None, Err, IfOk, IfErr, OnOk, IsSome, length, map, string_bytes};
+ghost use Rattle.mast_world.specs.Changes.{IsSameBeside, IsSameSource};
 ghost use Rattle.mast_world.specs.Count.{HasRisen, counted};
-ghost use Rattle.mast_world.specs.declared.volume.FileId.{FileId};
 ghost use Rattle.mast_world.specs.declared.volume.FileId.TheVariants.{Picture};
 ghost use Rattle.dcp_commands.specs.Line.{IsPrinted};
-ghost use Rattle.dcp_commands.specs.Make.{Answers, IsBadInProject, IsEarly, IsMadeText, IsMissingInProject, checked, input_size, package_of, status_of};
+ghost use Rattle.dcp_commands.specs.Make.{IsCause, IsMadeText, IsPackage, IsStop, checked, package_of};
+ghost use Rattle.dcp_commands.specs.Status.{Answers};
 ghost use Rattle.dcp_commands.specs.Words.{make_words};
+ghost use Rattle.dcp_commands.specs.declared.status.Status.{Status};
 
 use crate::line::{done_text, print};
 use crate::status::Status;
+use crate::stopped::Stopped;
 use crate::words::make_words;
 use film_inputs::read_plan;
 use make_engine::{Options, make_alone};
@@ -30,45 +31,23 @@ fn make_package<S: Source, V: Volume>(
     words: &[String],
     source: &mut S,
     volume: &mut V,
-) -> Result<Bytes, Status>
-    ensures package { S.tells → V.tells
-        → OnOk result (package_of (S.file source.old) (map string_bytes words.now) ≡ Some (V.reads volume.new (Picture 1))) }
-    ensures text { IfOk result (IsMadeText S.tells (S.file source.old) (map string_bytes words.now)) }
-    ensures taken { S.tells
-        → OnOk result (S.taken source.new ≡ counted (S.taken source.old) (input_size (S.file source.old) (map string_bytes words.now))) }
+) -> Result<Bytes, Stopped>
+    ensures package { S.tells → OnOk result (IsPackage V.tells (S.file source.old) (map string_bytes words.now)
+        (V.reads volume.new (Picture 1)) (S.taken source.old) (S.taken source.new)) }
     ensures put { V.tells
         → OnOk result (V.put volume.new (Picture 1) ≡ counted (V.put volume.old (Picture 1)) (length (V.reads volume.new (Picture 1)))) }
-    ensures other_put { (file : FileId) → file ≢ Picture 1 → V.put volume.new file ≡ V.put volume.old file }
-    ensures other_reads { (file : FileId) → file ≢ Picture 1 → V.reads volume.new file ≡ V.reads volume.old file }
+    ensures text { IfOk result (IsMadeText S.tells (S.file source.old) (map string_bytes words.now)) }
+    ensures source_untroubled { OnOk result (S.faults source.new ≡ S.faults source.old) }
+    ensures volume_untroubled { OnOk result (V.faults volume.new ≡ V.faults volume.old) }
 
-    ensures usage { result ≡ Err Status.Usage → make_words (map string_bytes words.now) ≡ None }
-    ensures refused { make_words (map string_bytes words.now) ≡ None → result ≡ Err Status.Usage }
-    ensures early { (status : Status) → result ≡ Err status → IsEarly status → S.tells
-        → checked (S.file source.old) (map string_bytes words.now) ≡ Err status }
-    ensures ended { (status : Status) → S.tells → checked (S.file source.old) (map string_bytes words.now) ≡ Err status
-        → (result ≡ Err status) ⊎ (result ≡ Err Status.SourceFault) ⊎ (result ≡ Err Status.NoMemory) }
-    ensures unwritten { (status : Status) → result ≡ Err status → IsEarly status
-        → IsUnwritten (V.reads volume.old) (V.reads volume.new) (V.put volume.old) (V.put volume.new) }
-    ensures missing { (name : List ℕ) → result ≡ Err (Status.InputMissing name)
-        → ((S.tells → checked (S.file source.old) (map string_bytes words.now) ≡ Err (Status.InputMissing name))
-        × IsUnwritten (V.reads volume.old) (V.reads volume.new) (V.put volume.old) (V.put volume.new))
-        ⊎ IsMissingInProject S.tells (S.file source.old) (map string_bytes words.now) name }
-    ensures missing_count { (name : List ℕ) → result ≡ Err (Status.InputMissing name)
-        → HasRisen (S.absent source.old) (S.absent source.new) }
-    ensures short { (asset : List ℕ) (size need : ℕ) → result ≡ Err (Status.InputShort asset size need) → size < need }
-    ensures bad { (frame : ℕ) (why : BadWhy) → result ≡ Err (Status.BadFrame frame why)
-        → IsBadInProject S.tells (S.file source.old) (map string_bytes words.now) frame why }
-    ensures source_fault { result ≡ Err Status.SourceFault → HasRisen (S.faults source.old) (S.faults source.new) }
-    ensures store_fault { result ≡ Err Status.StoreFault → HasRisen (V.faults volume.old) (V.faults volume.new) }
-    ensures complete { S.tells → IsSome (package_of (S.file source.old) (map string_bytes words.now))
-        → ¬ HasRisen (S.faults source.old) (S.faults source.new)
-        → ¬ HasRisen (V.faults volume.old) (V.faults volume.new)
-        → (status_of result ≡ Status.Done) ⊎ (status_of result ≡ Status.NoMemory) }
-    ensures not_sink_fault { result ≢ Err Status.SinkFault }
-    ensures not_done { result ≢ Err Status.Done }
+    ensures refused { make_words (map string_bytes words.now) ≡ None → result ≡ Err Stopped.Usage }
+    ensures ended { IfErr result (IsStop S.tells (S.file source.old) (map string_bytes words.now)
+        S.absent S.faults source.old source.new V.reads V.put V.faults volume.old volume.new) }
+    ensures kept { IsSameSource S.file S.absent S.taken S.faults source.old source.new }
+    ensures beside { IsSameBeside (Picture 1) V.reads V.put V.faults volume.old volume.new }
 {
     let Some(asked) = make_words(words) else {
-        return Err(Status::Usage);
+        return Err(Stopped::Usage);
     };
     let plan = read_plan(alloc, source, asked.project.as_bytes())?;
     let report = make_alone(alloc, &plan, &OPTIONS, source, volume)?;
@@ -84,41 +63,24 @@ pub fn run_make<S: Source, V: Volume, O: Sink>(
     volume: &mut V,
     out: &mut O,
 ) -> Status
-    // On `Done` the picture file is that of the frame-by-frame definition, and all input was read for it; other
-    // files stay in any case.
-    ensures package { S.tells → V.tells → result ≡ Status.Done
-        → package_of (S.file source.old) (map string_bytes words.now) ≡ Some (V.reads volume.new (Picture 1)) }
-    ensures taken { S.tells → result ≡ Status.Done
-        → S.taken source.new ≡ counted (S.taken source.old) (input_size (S.file source.old) (map string_bytes words.now)) }
+    // On `Done` the package is that of the frame-by-frame definition, all input was read for it, and its picture file
+    // was put.
+    ensures package { S.tells → result ≡ Status.Done → IsPackage V.tells (S.file source.old) (map string_bytes words.now)
+        (V.reads volume.new (Picture 1)) (S.taken source.old) (S.taken source.new) }
     ensures put { V.tells → result ≡ Status.Done
         → V.put volume.new (Picture 1) ≡ counted (V.put volume.old (Picture 1)) (length (V.reads volume.new (Picture 1))) }
-    ensures other_put { (file : FileId) → file ≢ Picture 1 → V.put volume.new file ≡ V.put volume.old file }
-    ensures other_reads { (file : FileId) → file ≢ Picture 1 → V.reads volume.new file ≡ V.reads volume.old file }
 
-    // Words, project and inputs that end the command before a frame is read: the first cause in their order.
-    ensures usage { result ≡ Status.Usage → make_words (map string_bytes words.now) ≡ None }
-    ensures refused { make_words (map string_bytes words.now) ≡ None → Answers result Status.Usage }
-    ensures early { IsEarly result → S.tells → checked (S.file source.old) (map string_bytes words.now) ≡ Err result }
-    ensures ended { (status : Status) → S.tells → checked (S.file source.old) (map string_bytes words.now) ≡ Err status
+    // Why it ended so, status by status; and the other way: words, project and inputs that end the command before a frame
+    // is read do so, the first cause in their order.
+    ensures cause { IsCause S.tells (S.file source.old) (map string_bytes words.now)
+        S.absent S.faults source.old source.new V.reads V.put V.faults volume.old volume.new O.faults out.old out.new result }
+    ensures told { (status : Status) → S.tells → checked (S.file source.old) (map string_bytes words.now) ≡ Err status
         → (result ≡ Status.SourceFault) ⊎ Answers result status }
-    ensures unwritten { IsEarly result
-        → IsUnwritten (V.reads volume.old) (V.reads volume.new) (V.put volume.old) (V.put volume.new) }
-    ensures short { (asset : List ℕ) (size need : ℕ) → result ≡ Status.InputShort asset size need → size < need }
+    ensures refused { make_words (map string_bytes words.now) ≡ None → Answers result Status.Usage }
 
-    // A missing input is missed before anything is written, or it is that of a fresh frame.
-    ensures missing { (name : List ℕ) → result ≡ Status.InputMissing name
-        → ((S.tells → checked (S.file source.old) (map string_bytes words.now) ≡ Err (Status.InputMissing name))
-        × IsUnwritten (V.reads volume.old) (V.reads volume.new) (V.put volume.old) (V.put volume.new))
-        ⊎ IsMissingInProject S.tells (S.file source.old) (map string_bytes words.now) name }
-    ensures missing_count { (name : List ℕ) → result ≡ Status.InputMissing name
-        → HasRisen (S.absent source.old) (S.absent source.new) }
-    ensures bad { (frame : ℕ) (why : BadWhy) → result ≡ Status.BadFrame frame why
-        → IsBadInProject S.tells (S.file source.old) (map string_bytes words.now) frame why }
-
-    // A fault is a device's.
-    ensures source_fault { result ≡ Status.SourceFault → HasRisen (S.faults source.old) (S.faults source.new) }
-    ensures store_fault { result ≡ Status.StoreFault → HasRisen (V.faults volume.old) (V.faults volume.new) }
-    ensures sink_fault { result ≡ Status.SinkFault → HasRisen (O.faults out.old) (O.faults out.new) }
+    // What stays in any case.
+    ensures kept { IsSameSource S.file S.absent S.taken S.faults source.old source.new }
+    ensures beside { IsSameBeside (Picture 1) V.reads V.put V.faults volume.old volume.new }
 
     // The line that is printed; that of `Done` has the project's number of frames.
     ensures printed { O.tells

@@ -1,7 +1,9 @@
-use film_inputs::PlanEnd;
+use crate::stopped::Stopped;
+use film_inputs::{InputEnd, PlanEnd};
+use film_plan::PlanRefusal;
 use film_project::ProjectRefusal;
-use make_engine::{BadWhy, MakeEnd};
-use mast_base::{Bytes, NoMemory};
+use make_engine::{BadWhy, FrameEnd, MakeEnd};
+use mast_base::Bytes;
 
 /// How a command ended.
 #[derive(Debug, Drop)]
@@ -24,48 +26,110 @@ pub enum Status {
     Unbuilt,
 }
 
-impl From<NoMemory> for Status {
+impl From<InputEnd> for Status {
     ghost use Rattle.std.specs.Prelude.{◌≡◌};
-    ghost use Rattle.dcp_commands.specs.declared.status.Status.TheVariants.{NoMemory};
+    ghost use Rattle.dcp_commands.specs.Status.{input_status};
 
-    ghost from_gives = { λ _ status. status ≡ NoMemory };
+    ghost from_gives = { λ end status. status ≡ input_status end };
 
-    fn from(_error: NoMemory) -> Self {
-        Status::NoMemory
+    fn from(end: InputEnd) -> Self {
+        match end {
+            InputEnd::Missing { name } => Status::InputMissing { name },
+            InputEnd::SourceFault => Status::SourceFault,
+            InputEnd::NoMemory => Status::NoMemory,
+        }
+    }
+}
+
+impl From<ProjectRefusal> for Status {
+    ghost use Rattle.std.specs.Prelude.{◌≡◌};
+    ghost use Rattle.dcp_commands.specs.Status.{refused_status};
+
+    ghost from_gives = { λ refusal status. status ≡ refused_status refusal };
+
+    fn from(refusal: ProjectRefusal) -> Self {
+        match refusal {
+            ProjectRefusal::NoMemory => Status::NoMemory,
+            refusal => Status::ProjectRefused { refusal },
+        }
+    }
+}
+
+impl From<PlanRefusal> for Status {
+    ghost use Rattle.std.specs.Prelude.{◌≡◌};
+    ghost use Rattle.dcp_commands.specs.Status.{short_status};
+
+    ghost from_gives = { λ refusal status. status ≡ short_status refusal };
+
+    fn from(refusal: PlanRefusal) -> Self {
+        match refusal {
+            PlanRefusal::InputShort { asset, size, need } => {
+                Status::InputShort { asset, size, need }
+            }
+            PlanRefusal::NoMemory => Status::NoMemory,
+        }
     }
 }
 
 impl From<PlanEnd> for Status {
     ghost use Rattle.std.specs.Prelude.{◌≡◌};
-    ghost use Rattle.dcp_commands.specs.Make.{plan_status};
+    ghost use Rattle.dcp_commands.specs.Status.{plan_status};
 
     ghost from_gives = { λ end status. status ≡ plan_status end };
 
     fn from(end: PlanEnd) -> Self {
         match end {
-            PlanEnd::InputMissing { name } => Status::InputMissing { name },
-            PlanEnd::ProjectRefused { refusal } => Status::ProjectRefused { refusal },
-            PlanEnd::InputShort { asset, size, need } => Status::InputShort { asset, size, need },
-            PlanEnd::SourceFault => Status::SourceFault,
-            PlanEnd::NoMemory => Status::NoMemory,
+            PlanEnd::Input(end) => end.into(),
+            PlanEnd::Project(refusal) => refusal.into(),
+            PlanEnd::Plan(refusal) => refusal.into(),
+        }
+    }
+}
+
+impl From<FrameEnd> for Status {
+    ghost use Rattle.std.specs.Prelude.{◌≡◌};
+    ghost use Rattle.dcp_commands.specs.Status.{frame_status};
+
+    ghost from_gives = { λ end status. status ≡ frame_status end };
+
+    fn from(end: FrameEnd) -> Self {
+        match end {
+            FrameEnd::Missing { name } => Status::InputMissing { name },
+            FrameEnd::Bad { frame, why } => Status::BadFrame { frame, why },
+            FrameEnd::SourceFault => Status::SourceFault,
+            FrameEnd::NoMemory => Status::NoMemory,
         }
     }
 }
 
 impl From<MakeEnd> for Status {
     ghost use Rattle.std.specs.Prelude.{◌≡◌};
-    ghost use Rattle.dcp_commands.specs.Make.{make_status};
+    ghost use Rattle.dcp_commands.specs.Status.{make_status};
 
     ghost from_gives = { λ end status. status ≡ make_status end };
 
     fn from(end: MakeEnd) -> Self {
         match end {
-            MakeEnd::InputMissing { name } => Status::InputMissing { name },
-            MakeEnd::BadFrame { frame, why } => Status::BadFrame { frame, why },
-            MakeEnd::SourceFault => Status::SourceFault,
+            MakeEnd::Frame(end) => end.into(),
             MakeEnd::StoreFault => Status::StoreFault,
             MakeEnd::Unbuilt => Status::Unbuilt,
             MakeEnd::NoMemory => Status::NoMemory,
+        }
+    }
+}
+
+impl From<Stopped> for Status {
+    ghost use Rattle.std.specs.Prelude.{◌≡◌};
+    ghost use Rattle.dcp_commands.specs.Status.{stopped_status};
+
+    ghost from_gives = { λ stopped status. status ≡ stopped_status stopped };
+
+    fn from(stopped: Stopped) -> Self {
+        match stopped {
+            Stopped::Usage => Status::Usage,
+            Stopped::Plan(end) => end.into(),
+            Stopped::Make(end) => end.into(),
+            Stopped::NoMemory => Status::NoMemory,
         }
     }
 }

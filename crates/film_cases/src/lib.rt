@@ -1,6 +1,8 @@
-//! Tests of project files, timelines and plans.
+//! Tests of project files, timelines, plans and the raw frames of assets.
 #![tactic(auto)]
 
+#[cfg(test)]
+mod frames;
 #[cfg(test)]
 mod plans;
 #[cfg(test)]

@@ -1,5 +1,5 @@
 -- What a project file leads to before a frame is read: a project whose inputs are there, or why there is none.
-use Rattle.std.specs.Prelude.{◌≡◌, ◌≢◌, ℕ, zero, suc, ◌==◌, ◌&&◌, ◌||◌, Bool, true, false, if◌then◌else◌, List, [], length, map, Option, Some, None, unwrap_or, Result, Ok, Err}
+use Rattle.std.specs.Prelude.{ℕ, zero, suc, ◌==◌, ◌&&◌, ◌||◌, Bool, true, false, if◌then◌else◌, List, [], length, map, Option, Some, None, unwrap_or, Result, Ok, Err}
 use Rattle.std.specs.List.{list_any, range_with_len}
 use Rattle.std.specs.Option.{option_or}
 use Rattle.film_plan.specs.Needs.{Short, first_short}
@@ -8,12 +8,11 @@ use Rattle.film_project.specs.Facts.{ProjectFacts, asset_at}
 use Rattle.film_project.specs.declared.asset.AssetKind.{AssetKind}
 use Rattle.film_project.specs.declared.asset.AssetKind.TheVariants.{Rgb48, Ppm, J2c, Pcm24}
 use Rattle.film_project.specs.declared.refusal.ProjectRefusal.{ProjectRefusal}
-use Rattle.film_project.specs.declared.refusal.ProjectRefusal.TheVariants as refusal
 use Rattle.mast_world.specs.Content.{Files}
-use Rattle.film_plan.specs.declared.refusal.PlanRefusal.{PlanRefusal}
-use Rattle.film_plan.specs.declared.refusal.PlanRefusal.TheVariants as plan
-use Rattle.film_inputs.specs.declared.inputs.PlanEnd.{PlanEnd}
-use Rattle.film_inputs.specs.declared.inputs.PlanEnd.TheVariants.{InputMissing, InputShort, NoMemory, ProjectRefused, SourceFault}
+use Rattle.film_plan.specs.declared.refusal.PlanRefusal.TheVariants.{InputShort}
+use Rattle.film_inputs.specs.declared.ends.InputEnd.TheVariants.{Missing}
+use Rattle.film_inputs.specs.declared.ends.PlanEnd.{PlanEnd}
+use Rattle.film_inputs.specs.declared.ends.PlanEnd.TheVariants.{Input, Plan, Project}
 
 -- assets of these kinds lie in a single file
 abbrev pub is_single : AssetKind → Bool
@@ -56,31 +55,18 @@ missing_input files project = missing_before files project (length project.asset
 
 -- missing files come before short ones
 abbrev pub with_inputs : ProjectFacts → Option (List ℕ) → Option Short → Result ProjectFacts PlanEnd
-with_inputs project (Some name) short = Err (InputMissing name)
-with_inputs project None (Some short) = Err (InputShort short.asset short.size short.need)
+with_inputs project (Some name) short = Err (Input (Missing name))
+with_inputs project None (Some short) = Err (Plan (InputShort short.asset short.size short.need))
 with_inputs project None None = Ok project
 
 abbrev pub with_project : Files → Result ProjectFacts ProjectRefusal → Result ProjectFacts PlanEnd
-with_project files (Err refusal) = Err (ProjectRefused refusal)
+with_project files (Err refusal) = Err (Project refusal)
 with_project files (Ok project) = with_inputs project (missing_input files project) (first_short project (sizes_of files project))
 
 abbrev pub with_text : Files → List ℕ → Option (List ℕ) → Result ProjectFacts PlanEnd
-with_text files name None = Err (InputMissing name)
+with_text files name None = Err (Input (Missing name))
 with_text files name (Some text) = with_project files (accepts text)
 
 -- the project of the file of this name, or why there is no plan of it, the first cause in this order
 abbrev pub planned : Files → List ℕ → Result ProjectFacts PlanEnd
 planned files name = with_text files name (files name)
-
--- this is how planning ends, but for want of memory and a fault of the source
-abbrev pub Ends : {T : Type 0} → PlanEnd → Result T PlanEnd → Type 0
-Ends end wanted = end ≢ SourceFault → end ≢ NoMemory → wanted ≡ Err end
-
--- the end of a refused project
-abbrev pub refused_end : ProjectRefusal → PlanEnd
-refused_end refusal.NoMemory = NoMemory
-refused_end refusal = ProjectRefused refusal
-
-abbrev pub short_end : PlanRefusal → PlanEnd
-short_end (plan.InputShort asset size need) = InputShort asset size need
-short_end plan.NoMemory = NoMemory

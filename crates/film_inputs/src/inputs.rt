@@ -1,138 +1,84 @@
-ghost use Rattle.std.specs.Prelude.{◌≡◌, ◌≢◌, ◌≤◌, ◌<◌, ◌||◌, ◌==◌, ℕ, List, [], Some, None, Ok, Err, IfOk, OnOk, IsTrue, length, map, unwrap_or};
+ghost use Rattle.std.specs.Prelude.{◌≡◌, ◌<◌, ◌≤◌, ◌||◌, ◌==◌, [], Some, None, Ok, IfOk, IfErr, OnOk, OnErr, IsSomeAnd, length, map, option_map, unwrap_or};
 ghost use Rattle.std.specs.List.{list_any};
 ghost use Rattle.film_project.specs.Facts.{asset_at};
-ghost use Rattle.mast_world.specs.Count.{HasRisen, counted};
-ghost use Rattle.film_inputs.specs.Inputs.{Ends, is_named, is_single, is_wanted, missing_input, planned, refused_end, size_at, sizes_of, missing_at};
+ghost use Rattle.film_reader.specs.declared.read.TheConstants.{GREATEST_TEXT};
+ghost use Rattle.mast_world.specs.Changes.{IsSameSource};
+ghost use Rattle.mast_world.specs.Count.{counted, counted_on_ok};
+ghost use Rattle.film_inputs.specs.Causes.{IsGoneAt, IsGoneInput, IsInputCause, IsPlanCause, IsTextCause};
+ghost use Rattle.film_inputs.specs.Inputs.{is_named, is_single, is_wanted, missing_input, planned, size_at, sizes_of, missing_at};
 
-use film_plan::{Plan, PlanRefusal, plan};
+use crate::ends::{InputEnd, PlanEnd};
+use film_plan::{Plan, plan};
 use film_project::{Asset, AssetKind, Project, ProjectRefusal};
-use film_reader::read_project;
-use mast_base::{Bytes, NoMemory};
+use film_reader::{GREATEST_TEXT, read_project};
+use mast_base::Bytes;
 use mast_world::{Failed, Source};
-use std::alloc::{AllocError, AllocFailed, Global};
+use std::alloc::Global;
 
-/// The greatest size of a project file that is read, in bytes.
-const LONGEST: u64 = 8_388_608;
-
-/// Why a project has no plan.
-#[derive(Debug, Drop)]
-pub enum PlanEnd {
-    /// There is no file of this name.
-    InputMissing { name: Bytes },
-    ProjectRefused { refusal: ProjectRefusal },
-    /// The asset of this id has fewer bytes than its clips need.
-    InputShort { asset: Bytes, size: u64, need: u64 },
-    SourceFault,
-    NoMemory,
-}
-
-impl From<AllocError> for PlanEnd {
-    ghost use Rattle.std.specs.Prelude.{◌≡◌};
-    ghost use Rattle.film_inputs.specs.declared.inputs.PlanEnd.TheVariants.{NoMemory};
-
-    ghost from_gives = { λ _ made. made ≡ NoMemory };
-
-    fn from(_error: AllocError) -> Self {
-        PlanEnd::NoMemory
-    }
-}
-
-impl<T: Drop> From<AllocFailed<T>> for PlanEnd {
-    ghost use Rattle.std.specs.Prelude.{◌≡◌};
-    ghost use Rattle.film_inputs.specs.declared.inputs.PlanEnd.TheVariants.{NoMemory};
-
-    ghost from_gives = { λ _ made. made ≡ NoMemory };
-
-    fn from(_error: AllocFailed<T>) -> Self {
-        PlanEnd::NoMemory
-    }
-}
-
-impl From<ProjectRefusal> for PlanEnd {
-    ghost use Rattle.std.specs.Prelude.{◌≡◌};
-    ghost use Rattle.film_inputs.specs.Inputs.{refused_end};
-
-    ghost from_gives = { λ refusal made. made ≡ refused_end refusal };
-
-    fn from(refusal: ProjectRefusal) -> Self {
-        match refusal {
-            ProjectRefusal::NoMemory => PlanEnd::NoMemory,
-            refusal => PlanEnd::ProjectRefused { refusal },
-        }
-    }
-}
-
-impl From<PlanRefusal> for PlanEnd {
-    ghost use Rattle.std.specs.Prelude.{◌≡◌};
-    ghost use Rattle.film_inputs.specs.Inputs.{short_end};
-
-    ghost from_gives = { λ refusal made. made ≡ short_end refusal };
-
-    fn from(refusal: PlanRefusal) -> Self {
-        match refusal {
-            PlanRefusal::InputShort { asset, size, need } => {
-                PlanEnd::InputShort { asset, size, need }
-            }
-            PlanRefusal::NoMemory => PlanEnd::NoMemory,
-        }
-    }
-}
-
-fn source_fault(_fault: Failed) -> PlanEnd
-    ensures { result ≡ PlanEnd.SourceFault }
+fn source_fault(_fault: Failed) -> InputEnd
+    ensures { result ≡ InputEnd.SourceFault }
 {
-    PlanEnd::SourceFault
+    InputEnd::SourceFault
 }
 
 /// The size of a file, which has to be there.
-fn find_size<S: Source>(alloc: Global, source: &mut S, name: &[u8]) -> Result<u64, PlanEnd>
-    ensures size { S.tells
-        → IfOk result (λ size. (bytes : List ℕ) × (S.file source.old name.now ≡ Some bytes) × (size ≡ length bytes)) }
-    ensures missing { (n : List ℕ) → result ≡ Err (PlanEnd.InputMissing n) → n ≡ name.now }
-    ensures missing_count { (n : List ℕ) → result ≡ Err (PlanEnd.InputMissing n)
-        → HasRisen (S.absent source.old) (S.absent source.new) }
-    ensures missing_told { (n : List ℕ) → result ≡ Err (PlanEnd.InputMissing n) → S.tells → S.file source.old name.now ≡ None }
-    ensures source_fault { result ≡ Err PlanEnd.SourceFault → HasRisen (S.faults source.old) (S.faults source.new) }
-    ensures no_refusal { (refusal : ProjectRefusal) → result ≢ Err (PlanEnd.ProjectRefused refusal) }
-    ensures no_short { (asset : List ℕ) (size need : ℕ) → result ≢ Err (PlanEnd.InputShort asset size need) }
+fn find_size<S: Source>(alloc: Global, source: &mut S, name: &[u8]) -> Result<u64, InputEnd>
+    ensures size { S.tells → IfOk result (λ size. option_map length (S.file source.old name.now) ≡ Some size) }
+    ensures ended { IfErr result (IsInputCause S.absent S.faults source.old source.new
+        (λ n. (n ≡ name.now) × (S.tells → S.file source.old n ≡ None))) }
 
-    ensures same_files { S.file source.new ≡ S.file source.old }
+    ensures untroubled { OnOk result (S.faults source.new ≡ S.faults source.old) }
     ensures same_taken { S.taken source.new ≡ S.taken source.old }
-    ensures absent_kept { S.absent source.old ≤ S.absent source.new }
-    ensures faults_kept { S.faults source.old ≤ S.faults source.new }
+    ensures kept { IsSameSource S.file S.absent S.taken S.faults source.old source.new }
 {
     match source.find(name).map_err(source_fault)? {
         Some(size) => Ok(size),
-        None => Err(PlanEnd::InputMissing {
+        None => Err(InputEnd::Missing {
             name: Bytes::copy_of(alloc, name)?,
         }),
     }
 }
 
-/// Reads the text of the project file of this name. One that is too long isn't read.
-fn read_text<S: Source>(alloc: Global, source: &mut S, name: &[u8]) -> Result<Vec<u8>, PlanEnd>
+/// Reads a whole file of so many bytes.
+fn read_file<S: Source>(
+    alloc: Global,
+    source: &mut S,
+    name: &[u8],
+    size: u64,
+) -> Result<Vec<u8>, InputEnd>
+    requires there { S.tells → option_map length (S.file source.old name.now) ≡ Some size }
     ensures read { S.tells → IfOk result (λ text. S.file source.old name.now ≡ Some text.items) }
-    ensures taken { IfOk result (λ text. S.taken source.new ≡ counted (S.taken source.old) (length text.items)) }
-    ensures ended { (end : PlanEnd) → result ≡ Err end → S.tells → Ends end (planned (S.file source.old) name.now) }
-    ensures missing_count { (n : List ℕ) → result ≡ Err (PlanEnd.InputMissing n)
-        → HasRisen (S.absent source.old) (S.absent source.new) }
-    ensures source_fault { result ≡ Err PlanEnd.SourceFault → HasRisen (S.faults source.old) (S.faults source.new) }
-    ensures no_short { (asset : List ℕ) (size need : ℕ) → result ≢ Err (PlanEnd.InputShort asset size need) }
+    ensures size { IfOk result (λ text. length text.items ≡ size) }
+    ensures taken { S.taken source.new ≡ counted_on_ok (S.taken source.old) size result }
+    ensures ended { IfErr result (IsInputCause S.absent S.faults source.old source.new (λ n. ⊥)) }
 
-    ensures same_files { S.file source.new ≡ S.file source.old }
-    ensures absent_kept { S.absent source.old ≤ S.absent source.new }
-    ensures faults_kept { S.faults source.old ≤ S.faults source.new }
+    ensures untroubled { OnOk result (S.faults source.new ≡ S.faults source.old) }
+    ensures kept { IsSameSource S.file S.absent S.taken S.faults source.old source.new }
 {
-    let size = find_size(alloc, source, name)?;
-    if size > LONGEST {
-        let refusal = ProjectRefusal::FileTooLong { bytes: size };
-        return Err(PlanEnd::ProjectRefused { refusal });
-    }
     let mut text = Vec::from_elem(alloc, 0, size as usize)?;
     source
         .read(name, 0, text.as_mut_slice())
         .map_err(source_fault)?;
     Ok(text)
+}
+
+/// Reads the text of the project file of this name. One that is too long isn't read.
+fn read_text<S: Source>(alloc: Global, source: &mut S, name: &[u8]) -> Result<Vec<u8>, PlanEnd>
+    ensures read { S.tells → IfOk result (λ text. S.file source.old name.now ≡ Some text.items) }
+    ensures size { IfOk result (λ text. length text.items ≤ GREATEST_TEXT) }
+    ensures taken { IfOk result (λ text. S.taken source.new ≡ counted (S.taken source.old) (length text.items)) }
+    ensures unread { OnErr result (S.taken source.new ≡ S.taken source.old) }
+    ensures ended { IfErr result (IsTextCause S.tells (S.file source.old) name.now S.absent S.faults source.old source.new) }
+
+    ensures untroubled { OnOk result (S.faults source.new ≡ S.faults source.old) }
+    ensures kept { IsSameSource S.file S.absent S.taken S.faults source.old source.new }
+{
+    let size = find_size(alloc, source, name)?;
+    if size > GREATEST_TEXT as u64 {
+        let refusal = ProjectRefusal::FileTooLong { bytes: size };
+        return Err(PlanEnd::Project(refusal));
+    }
+    Ok(read_file(alloc, source, name, size)?)
 }
 
 fn is_single(kind: AssetKind) -> bool
@@ -186,22 +132,16 @@ fn size_of<S: Source>(
     project: &Project,
     place: u32,
     source: &mut S,
-) -> Result<u64, PlanEnd>
+) -> Result<u64, InputEnd>
     requires { place < length project.now.assets }
     ensures there { S.tells → OnOk result (missing_at (S.file source.old) project.now place ≡ None) }
     ensures size { S.tells → IfOk result (λ size. size ≡ size_at (S.file source.old) project.now place) }
-    ensures missing_count { (n : List ℕ) → result ≡ Err (PlanEnd.InputMissing n)
-        → HasRisen (S.absent source.old) (S.absent source.new) }
-    ensures missing_told { (n : List ℕ) → result ≡ Err (PlanEnd.InputMissing n) → S.tells
-        → missing_at (S.file source.old) project.now place ≡ Some n }
-    ensures source_fault { result ≡ Err PlanEnd.SourceFault → HasRisen (S.faults source.old) (S.faults source.new) }
-    ensures no_refusal { (refusal : ProjectRefusal) → result ≢ Err (PlanEnd.ProjectRefused refusal) }
-    ensures no_short { (asset : List ℕ) (size need : ℕ) → result ≢ Err (PlanEnd.InputShort asset size need) }
+    ensures ended { IfErr result (IsInputCause S.absent S.faults source.old source.new
+        (IsGoneAt S.tells (S.file source.old) project.now place)) }
 
-    ensures same_files { S.file source.new ≡ S.file source.old }
+    ensures untroubled { OnOk result (S.faults source.new ≡ S.faults source.old) }
     ensures same_taken { S.taken source.new ≡ S.taken source.old }
-    ensures absent_kept { S.absent source.old ≤ S.absent source.new }
-    ensures faults_kept { S.faults source.old ≤ S.faults source.new }
+    ensures kept { IsSameSource S.file S.absent S.taken S.faults source.old source.new }
 {
     if !is_wanted(project, place) {
         return Ok(0);
@@ -214,22 +154,16 @@ fn find_sizes<S: Source>(
     alloc: Global,
     project: &Project,
     source: &mut S,
-) -> Result<Vec<u64>, PlanEnd>
+) -> Result<Vec<u64>, InputEnd>
     ensures there { S.tells → OnOk result (missing_input (S.file source.old) project.now ≡ None) }
     ensures sizes { S.tells → IfOk result (λ sizes. sizes.items ≡ sizes_of (S.file source.old) project.now) }
     ensures count { IfOk result (λ sizes. length sizes.items ≡ length project.now.assets) }
-    ensures missing_count { (n : List ℕ) → result ≡ Err (PlanEnd.InputMissing n)
-        → HasRisen (S.absent source.old) (S.absent source.new) }
-    ensures missing_told { (n : List ℕ) → result ≡ Err (PlanEnd.InputMissing n) → S.tells
-        → missing_input (S.file source.old) project.now ≡ Some n }
-    ensures source_fault { result ≡ Err PlanEnd.SourceFault → HasRisen (S.faults source.old) (S.faults source.new) }
-    ensures no_refusal { (refusal : ProjectRefusal) → result ≢ Err (PlanEnd.ProjectRefused refusal) }
-    ensures no_short { (asset : List ℕ) (size need : ℕ) → result ≢ Err (PlanEnd.InputShort asset size need) }
+    ensures ended { IfErr result (IsInputCause S.absent S.faults source.old source.new
+        (IsGoneInput S.tells (S.file source.old) project.now)) }
 
-    ensures same_files { S.file source.new ≡ S.file source.old }
+    ensures untroubled { OnOk result (S.faults source.new ≡ S.faults source.old) }
     ensures same_taken { S.taken source.new ≡ S.taken source.old }
-    ensures absent_kept { S.absent source.old ≤ S.absent source.new }
-    ensures faults_kept { S.faults source.old ≤ S.faults source.new }
+    ensures kept { IsSameSource S.file S.absent S.taken S.faults source.old source.new }
 {
     let count = project.assets.len() as u32;
     let mut sizes = Vec::with_capacity(alloc, count as usize)?;
@@ -242,18 +176,16 @@ fn find_sizes<S: Source>(
 /// Reads the project file of this name, looks for the single files that its clips name, and plans it.
 pub fn read_plan<S: Source>(alloc: Global, source: &mut S, name: &[u8]) -> Result<Plan, PlanEnd>
     ensures planned { S.tells → IfOk result (λ plan. planned (S.file source.old) name.now ≡ Ok plan.project) }
-    ensures ended { (end : PlanEnd) → result ≡ Err end → S.tells → Ends end (planned (S.file source.old) name.now) }
-    ensures taken { S.tells
-        → OnOk result (S.taken source.new ≡ counted (S.taken source.old) (length (unwrap_or (S.file source.old name.now) []))) }
+    ensures taken { S.tells → OnOk result (IsSomeAnd (S.file source.old name.now)
+        (λ text. S.taken source.new ≡ counted (S.taken source.old) (length text))) }
 
-    ensures missing_count { (n : List ℕ) → result ≡ Err (PlanEnd.InputMissing n)
-        → HasRisen (S.absent source.old) (S.absent source.new) }
-    ensures short { (asset : List ℕ) (size need : ℕ) → result ≡ Err (PlanEnd.InputShort asset size need) → size < need }
-    ensures source_fault { result ≡ Err PlanEnd.SourceFault → HasRisen (S.faults source.old) (S.faults source.new) }
+    // Why there is none, by the ending. A file that is too long isn't read.
+    ensures ended { IfErr result (IsPlanCause S.tells (S.file source.old) name.now S.absent S.faults source.old source.new) }
+    ensures unread { S.tells → IsSomeAnd (S.file source.old name.now) (λ text. GREATEST_TEXT < length text)
+        → S.taken source.new ≡ S.taken source.old }
 
-    ensures same_files { S.file source.new ≡ S.file source.old }
-    ensures absent_kept { S.absent source.old ≤ S.absent source.new }
-    ensures faults_kept { S.faults source.old ≤ S.faults source.new }
+    ensures untroubled { OnOk result (S.faults source.new ≡ S.faults source.old) }
+    ensures kept { IsSameSource S.file S.absent S.taken S.faults source.old source.new }
 {
     let text = read_text(alloc, source, name)?;
     let project = read_project(alloc, text.as_slice())?;

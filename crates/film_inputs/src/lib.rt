@@ -1,6 +1,8 @@
 //! The project file of a source and the files that it names: read, looked for and planned.
 #![tactic(auto)]
 
+mod ends;
 mod inputs;
 
-pub use inputs::{PlanEnd, read_plan};
+pub use ends::{InputEnd, PlanEnd};
+pub use inputs::read_plan;

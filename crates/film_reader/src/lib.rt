@@ -9,4 +9,4 @@ mod names;
 mod object;
 mod read;
 
-pub use read::read_project;
+pub use read::{GREATEST_TEXT, read_project};

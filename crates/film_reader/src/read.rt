@@ -21,7 +21,7 @@ use std::alloc::Global;
 use uuid::Uuid;
 
 /// The most bytes that a project file may have.
-const GREATEST_TEXT: usize = 8_388_608;
+pub const GREATEST_TEXT: usize = 8_388_608;
 
 /// The project that the text of a project file tells, or the first refusal in the fixed order: the
 /// whole text, then the top object, the assets, the picture clips and the sound clips, each by its

@@ -20,12 +20,14 @@ use Rattle.film_timeline.specs.Timeline.{IsFresh, cells_of, fresh_cells}
 use Rattle.film_timeline.specs.declared.cell.Cell.{Cell}
 use Rattle.film_timeline.specs.declared.cell.Cell.TheVariants.{Black}
 use Rattle.mast_world.specs.Count.{counted}
-use Rattle.make_engine.specs.Causes.{IsBadFrame, IsMissingFrame, ShowsFile}
+use Rattle.make_engine.specs.Causes.{IsBadFrame, IsFileCause, IsFrameCause, IsMissingFrame, ShowsFile}
 use Rattle.make_engine.specs.Engine.{HasCopied, IsInFile, IsItemAt, IsTooLong, ReadsItem, TakesItem}
 use Rattle.make_engine.specs.Item.{item}
 use Rattle.make_engine.specs.Package.{codestream, is_built, is_ready, value_of, values_of}
 use Rattle.mast_world.specs.Content.{Files}
 use Rattle.make_engine.specs.declared.outcome.BadWhy.{BadWhy}
+use Rattle.make_engine.specs.declared.outcome.FrameEnd.{FrameEnd}
+use Rattle.make_engine.specs.declared.outcome.FrameEnd.TheVariants as of_frame
 
 -- whether frame f repeats the one before it
 abbrev pub Repeats : List Cell → ℕ → Type 0
@@ -99,7 +101,7 @@ pub shows_file : (tells : Type 0) (files : Files) (project : ProjectFacts) (cell
 shows_file tells files project cells f name repeats are below test is file earlier = record {
   asset = file.asset;
   index = file.index;
-  cell = sym (ap (λ cells. slice_get cells f) are) ∙ slice_get-get_or cells f Black below ∙ ap Some file.shown;
+  at = sym (ap (λ cells. slice_get cells f) are) ∙ slice_get-get_or cells f Black below ∙ ap Some file.shown;
   fresh = is_fresh (cells_of project) f (subst (λ (cells : List Cell). IsTrue false ↔ Repeats cells f) are (rw is at test));
   named = file.named;
   earlier = earlier;
@@ -108,7 +110,7 @@ shows_file tells files project cells f name repeats are below test is file earli
 -- its file isn't there, or is too long
 pub missing_frame : (tells : Type 0) (files : Files) (project : ProjectFacts) (frame : ℕ) (here name : List ℕ) → ShowsFile tells files project frame here → name ≡ here → (tells → files here ≡ None) → IsMissingFrame tells files project name
 missing_frame tells files project frame here name shows named gone = record {
-  frame = frame;
+  f = frame;
   shows = rw named shows;
   gone = rw named gone;
 }
@@ -182,3 +184,13 @@ pub held_next : (files : Files) (project : ProjectFacts) (f : ℕ) (bytes : List
 held_next files project f bytes taken_before taken_now one =
     let e : f + 1 - 1 ≡ f = omega arith in
     rw (e, one.at) (ap (option_map item) one.shown ∙ ap Some (sym one.made))
+
+-- a fresh frame has no item by what its file is
+pub of_file :
+    {A : Type 0} (tells : Type 0) (files : Files) (project : ProjectFacts) (here most : ℕ) (name : List ℕ) (absent faults : A → ℕ) (before now : A) (end : FrameEnd) →
+    ShowsFile tells files project here name → most ≡ (limits_of project).frame →
+    IsFileCause tells files name most here absent faults before now end → IsFrameCause tells files project absent faults before now end
+of_file tells files project here most name absent faults before now (of_frame.Missing n) shows limit is = (missing_frame tells files project here name n shows is.0 is.1, is.2)
+of_file tells files project here most name absent faults before now (of_frame.Bad f why) shows limit is = bad_frame tells files project here f most why name shows limit is
+of_file tells files project here most name absent faults before now of_frame.SourceFault shows limit is = is
+of_file tells files project here most name absent faults before now of_frame.NoMemory shows limit is = tt

@@ -1,9 +1,9 @@
 -- What was made, and which outcomes are left where there is a package.
-use Rattle.std.proofs.Common.{◌≡◌, ℕ, zero, suc, ◌<◌, List, [], ◌∷◌, length, sum_by, take, Option, Some, None, option_map, refl, sym, ◌∙◌, ap, arith}
+use Rattle.std.proofs.Common.{◌≡◌, ℕ, zero, suc, ◌<◌, ◌≤◌, List, [], ◌∷◌, length, sum_by, take, Option, Some, None, option_map, Ok, Err, inr, refl, sym, subst, ◌∙◌, ap, arith}
 use Rattle.std.proofs.lemmas.Bool.Decides.{nat_tests}
 use Rattle.std.proofs.lemmas.List.{take_all}
 use Rattle.std.specs.List.{flat_map}
-use Rattle.std.specs.Prelude.{option_and_then, slice_get, unwrap_or, IsSome}
+use Rattle.std.specs.Prelude.{option_and_then, slice_get, IsSome, Result, IfErr}
 use Rattle.film_plan.proofs.Cells.{length-cells_of}
 use Rattle.film_plan.specs.Plan.{limits_of}
 use Rattle.film_project.specs.Facts.{ProjectFacts, asset_at}
@@ -11,31 +11,32 @@ use Rattle.film_project.specs.declared.asset.AssetKind.{AssetKind}
 use Rattle.film_project.specs.declared.asset.AssetKind.TheVariants.{Rgb48, Ppm, J2c, Pcm24}
 use Rattle.film_timeline.specs.Timeline.{cells_of, fresh_cells}
 use Rattle.film_timeline.specs.declared.cell.Cell.{Cell}
-use Rattle.mast_world.specs.Count.{counted}
-use Rattle.make_engine.specs.Causes.{IsBadFrame, IsMissingFrame, ShowsFile}
-use Rattle.make_engine.specs.Engine.{HasCopied}
+use Rattle.mast_world.specs.Count.{HasRisen}
+use Rattle.make_engine.specs.Causes.{IsBadFrame, IsCopyCause, IsFrameCause, IsMakeCause, IsMissingFrame, IsOutOfMemory, ShowsFile}
+use Rattle.make_engine.specs.Engine.{HasCopied, IsMade}
 use Rattle.make_engine.specs.Item.{item}
-use Rattle.make_engine.specs.Package.{codestream, codestream_name, frames_size, picture_of, shown_of, value_of, values_of}
+use Rattle.make_engine.specs.Package.{codestream, codestream_name, picture_of, shown_of, value_of, values_of}
 use Rattle.mast_world.specs.Content.{Files}
 use Rattle.make_engine.specs.declared.outcome.BadWhy.{BadWhy}
 use Rattle.make_engine.specs.declared.outcome.MakeEnd.{MakeEnd}
-use Rattle.make_engine.specs.declared.outcome.MakeEnd.TheVariants.{InputMissing, BadFrame, SourceFault, StoreFault, Unbuilt, NoMemory}
+use Rattle.make_engine.specs.declared.outcome.FrameEnd.{FrameEnd}
+use Rattle.make_engine.specs.declared.outcome.FrameEnd.TheVariants as of_frame
+use Rattle.make_engine.specs.declared.outcome.MakeEnd.TheVariants.{Frame, StoreFault, Unbuilt, NoMemory}
+use Rattle.mast_world.specs.declared.volume.FileId.{FileId}
 
 all_cells : (project : ProjectFacts) → take project.frames (cells_of project) ≡ cells_of project
 all_cells project = (let length_is = length-cells_of project in take_all project.frames (cells_of project) (omega arith))
 
--- once all frames are copied the picture file is whole
-pub picture_made : {tells : Type 0} (told : tells) (files : Files) (project : ProjectFacts) (picture : List ℕ) (before now : ℕ) → HasCopied tells files project project.frames picture before now → picture_of files project ≡ Some picture
-picture_made told files project picture before now copied =
-    ap (λ cells. option_map (flat_map item) (values_of files project cells)) (sym (all_cells project))
-    ∙ ap (option_map (flat_map item)) copied.shown
-    ∙ ap Some (sym (copied.written told))
-
-pub size_made : (tells : Type 0) (files : Files) (project : ProjectFacts) (picture : List ℕ) (before now : ℕ) → HasCopied tells files project project.frames picture before now → now ≡ counted before (frames_size files project)
-size_made tells files project picture before now copied =
-    copied.taken
-    ∙ ap (λ fresh. counted before (sum_by length (unwrap_or fresh []))) (sym copied.read)
-    ∙ ap (λ cells. counted before (sum_by length (unwrap_or (values_of files project (fresh_cells cells)) []))) (all_cells project)
+-- once all frames are copied the package is made
+pub made : (tells : Type 0) (files : Files) (project : ProjectFacts) (picture now : List ℕ) (before taken : ℕ) → now ≡ picture → HasCopied tells files project project.frames picture before taken → IsMade tells files project now before taken
+made tells files project picture now before taken same copied = record {
+  made = flat_map item copied.values;
+  size = sum_by length copied.fresh;
+  shown = ap (λ cells. option_map (flat_map item) (values_of files project cells)) (sym (all_cells project)) ∙ ap (option_map (flat_map item)) copied.shown;
+  read = ap (λ cells. option_map (sum_by length) (values_of files project (fresh_cells cells))) (sym (all_cells project)) ∙ ap (option_map (sum_by length)) copied.read;
+  written = λ told. same ∙ copied.written told;
+  taken = copied.taken;
+}
 
 nothing : {A B C : Type 0} (x : Option A) (y : Option B) (f : A → B → C) → y ≡ None → option_and_then (λ a. option_map (f a) y) x ≡ None
 nothing None y f h = refl
@@ -57,12 +58,12 @@ hidden Pcm24 files project asset index none = refl
 
 file_none : (tells : Type 0) (files : Files) (project : ProjectFacts) (f : ℕ) (name : List ℕ) → ShowsFile tells files project f name → codestream (limits_of project).frame (files name) ≡ None → picture_of files project ≡ None
 file_none tells files project f name shows none =
-    ap (option_map (flat_map item)) (values_none files project (cells_of project) f _ shows.cell
+    ap (option_map (flat_map item)) (values_none files project (cells_of project) f _ shows.at
     (hidden (asset_at project shows.asset).kind files project shows.asset shows.index (rw (← shows.named) none)))
 
 -- what a missing file and one that is too long leave
 pub missing_none : {tells : Type 0} (told : tells) (files : Files) (project : ProjectFacts) (name : List ℕ) → IsMissingFrame tells files project name → picture_of files project ≡ None
-missing_none {tells} told files project name m = file_none tells files project m.frame name m.shows (rw (m.gone told) refl)
+missing_none {tells} told files project name m = file_none tells files project m.f name m.shows (rw (m.gone told) refl)
 
 too_long : (most : ℕ) (file : Option (List ℕ)) (got : ℕ) → option_map length file ≡ Some got → most < got → codestream most file ≡ None
 too_long most None got size above = refl
@@ -76,11 +77,56 @@ pub not_some : {A : Type 0} (o : Option A) → IsSome o → o ≡ None → ⊥
 not_some None some none = absurd (cc)
 not_some (Some a) some none = cc
 
--- what is ruled out of the ends leaves want of memory
-pub memory_left : (e : MakeEnd) → ((n : List ℕ) → e ≡ InputMissing n → ⊥) → ((f : ℕ) (w : BadWhy) → e ≡ BadFrame f w → ⊥) → (e ≡ SourceFault → ⊥) → (e ≡ StoreFault → ⊥) → (e ≡ Unbuilt → ⊥) → e ≡ NoMemory
-memory_left (InputMissing n) missing bad source store unbuilt = absurd (missing n refl)
-memory_left (BadFrame f w) missing bad source store unbuilt = absurd (bad f w refl)
-memory_left SourceFault missing bad source store unbuilt = absurd (source refl)
-memory_left StoreFault missing bad source store unbuilt = absurd (store refl)
-memory_left Unbuilt missing bad source store unbuilt = absurd (unbuilt refl)
-memory_left NoMemory missing bad source store unbuilt = refl
+-- where there is a picture and no count of faults rose, a frame has no item for want of memory alone
+pub frame_left :
+    {A : Type 0} {tells : Type 0} (told : tells) (files : Files) (project : ProjectFacts) (absent faults : A → ℕ) (before now : A) (end : FrameEnd) →
+    IsSome (picture_of files project) → ¬ HasRisen (faults before) (faults now) →
+    IsFrameCause tells files project absent faults before now end → end ≡ of_frame.NoMemory
+frame_left {A} {tells} told files project absent faults before now (of_frame.Missing name) some calm is = absurd (not_some (picture_of files project) some (missing_none told files project name is.0))
+frame_left {A} {tells} told files project absent faults before now (of_frame.Bad f why) some calm is = absurd (not_some (picture_of files project) some (bad_none told files project f why is))
+frame_left {A} {tells} told files project absent faults before now of_frame.SourceFault some calm is = absurd (calm is)
+frame_left {A} {tells} told files project absent faults before now of_frame.NoMemory some calm is = refl
+
+-- a frame's cause, as it is seen from an earlier state
+pub frame_cause :
+    {A : Type 0} (tells : Type 0) (files : Files) (project : ProjectFacts) (absent faults : A → ℕ) (before between now : A) (end : FrameEnd) →
+    absent before ≤ absent between → faults before ≤ faults between →
+    IsFrameCause tells files project absent faults between now end → IsFrameCause tells files project absent faults before now end
+frame_cause tells files project absent faults before between now (of_frame.Missing name) fewer less is = (is.0, omega (arith, is.1))
+frame_cause tells files project absent faults before between now (of_frame.Bad f why) fewer less is = is
+frame_cause tells files project absent faults before between now of_frame.SourceFault fewer less is = omega (arith, is)
+frame_cause tells files project absent faults before between now of_frame.NoMemory fewer less is = tt
+
+-- how copying the frames ends the making of a package, as it is seen from an earlier state of the volume
+pub copy_cause :
+    {A B : Type 0} (tells : Type 0) (files : Files) (project : ProjectFacts) (absent faults : A → ℕ) (before now : A)
+    (reads : B → FileId → List ℕ) (put : B → FileId → ℕ) (store_faults : B → ℕ) (first volume volume_now : B) (end : MakeEnd) →
+    store_faults first ≤ store_faults volume →
+    IsCopyCause tells files project absent faults before now store_faults volume volume_now end →
+    IsMakeCause tells files project absent faults before now reads put store_faults first volume_now end
+copy_cause tells files project absent faults before now reads put store_faults first volume volume_now (Frame end) less is = is
+copy_cause tells files project absent faults before now reads put store_faults first volume volume_now StoreFault less is = omega (arith, is)
+copy_cause tells files project absent faults before now reads put store_faults first volume volume_now Unbuilt less is = absurd is
+copy_cause tells files project absent faults before now reads put store_faults first volume volume_now NoMemory less is = absurd is
+
+pub copy_left :
+    {A B : Type 0} {tells : Type 0} (told : tells) (files : Files) (project : ProjectFacts) (absent faults : A → ℕ) (before now : A)
+    (store_faults : B → ℕ) (volume volume_now : B) (end : MakeEnd) →
+    IsSome (picture_of files project) → ¬ HasRisen (faults before) (faults now) → ¬ HasRisen (store_faults volume) (store_faults volume_now) →
+    IsCopyCause tells files project absent faults before now store_faults volume volume_now end → IsOutOfMemory end
+copy_left told files project absent faults before now store_faults volume volume_now (Frame end) some calm still is =
+    inr (ap Frame (frame_left told files project absent faults before now end some calm is))
+copy_left told files project absent faults before now store_faults volume volume_now StoreFault some calm still is = absurd (still is)
+copy_left told files project absent faults before now store_faults volume volume_now Unbuilt some calm still is = absurd is
+copy_left told files project absent faults before now store_faults volume volume_now NoMemory some calm still is = absurd is
+
+-- what is known of the error that a call hands up, and of the error itself
+pub ended_by : {T E : Type 0} (r : Result T E) (made end : E) (P : E → Type 0) → r ≡ Err made → made ≡ end → P end → IfErr r P
+ended_by r made end P is same holds = subst (λ r. IfErr r P) (sym (is ∙ ap Err same)) holds
+
+pub cause_of : {T E : Type 0} (r : Result T E) (end : E) (P : E → Type 0) → r ≡ Err end → IfErr r P → P end
+cause_of r end P is holds = subst (λ r. IfErr r P) is holds
+
+pub err_where : {T E : Type 0} (r : Result T E) (P Q : E → Type 0) → ((end : E) → P end → Q end) → IfErr r P → IfErr r Q
+err_where (Ok x) P Q more holds = tt
+err_where (Err end) P Q more holds = more end holds

@@ -8,7 +8,7 @@ use Rattle.film_timeline.specs.declared.cell.Cell.{Cell}
 use Rattle.film_timeline.specs.declared.cell.Cell.TheVariants.{Frame}
 use Rattle.mast_world.specs.Count.{counted}
 use Rattle.make_engine.specs.Item.{item}
-use Rattle.make_engine.specs.Package.{codestream, codestream_name, value_of, values_of}
+use Rattle.make_engine.specs.Package.{codestream, codestream_name, frames_size, picture_of, value_of, values_of}
 use Rattle.mast_world.specs.Content.{Files}
 use Rattle.make_engine.specs.declared.outcome.BadWhy.{BadWhy}
 use Rattle.make_engine.specs.declared.outcome.BadWhy.TheVariants.{Limit}
@@ -59,3 +59,12 @@ pub record HasCopied (volume_tells : Type 0) (files : Files) (project : ProjectF
   pub read : values_of files project (fresh_cells (take f (cells_of project))) ≡ Some fresh
   pub written : volume_tells → picture ≡ flat_map item values
   pub taken : taken_now ≡ counted taken_before (sum_by length fresh)
+
+-- the package was made: all its input was read, and the picture file is that of the frames
+pub record IsMade (volume_tells : Type 0) (files : Files) (project : ProjectFacts) (picture : List ℕ) (taken_before taken_now : ℕ) : Type 0 where
+  pub made : List ℕ
+  pub size : ℕ
+  pub shown : picture_of files project ≡ Some made
+  pub read : frames_size files project ≡ Some size
+  pub written : volume_tells → picture ≡ made
+  pub taken : taken_now ≡ counted taken_before size

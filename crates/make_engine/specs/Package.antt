@@ -1,5 +1,5 @@
 -- The package of a project, frame by frame.
-use Rattle.std.specs.Prelude.{ℕ, ◌==◌, ◌&&◌, Bool, true, false, List, [], ◌∷◌, length, sum_by, nat_le, if◌then◌else◌, Option, Some, None, option_map, option_and_then, unwrap_or}
+use Rattle.std.specs.Prelude.{ℕ, ◌==◌, ◌&&◌, Bool, true, false, List, [], ◌∷◌, length, sum_by, nat_le, if◌then◌else◌, Option, Some, None, option_map, option_and_then}
 use Rattle.std.specs.List.{flat_map, list_all}
 use Rattle.film_plan.specs.Plan.{limits_of}
 use Rattle.film_project.specs.Facts.{AssetFacts, ProjectFacts, asset_at}
@@ -43,8 +43,8 @@ abbrev pub picture_of : Files → ProjectFacts → Option (List ℕ)
 picture_of files project = option_map (flat_map item) (values_of files project (cells_of project))
 
 -- how many bytes of input the frames have: those of each frame that doesn't repeat the one before it
-abbrev pub frames_size : Files → ProjectFacts → ℕ
-frames_size files project = sum_by length (unwrap_or (values_of files project (fresh_cells (cells_of project))) [])
+abbrev pub frames_size : Files → ProjectFacts → Option ℕ
+frames_size files project = option_map (sum_by length) (values_of files project (fresh_cells (cells_of project)))
 
 -- what is built yet: no sound, and only ready codestreams
 abbrev pub is_j2c : AssetKind → Bool

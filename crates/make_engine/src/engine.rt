@@ -1,12 +1,11 @@
-ghost use Rattle.std.specs.Prelude.{◌≡◌, ◌≢◌, ◌≤◌, ◌++◌, ◌⊎◌, ℕ, [], List, Some, Err, IfOk, OnOk, OnErr, IsOkUnless, IsSome, IsTrue, IsFalse, length};
-ghost use Rattle.make_engine.specs.Causes.{IsBadFrame, IsMissingFrame, IsUnwritten};
-ghost use Rattle.make_engine.specs.Engine.{HasCopied};
-ghost use Rattle.make_engine.specs.Package.{frames_size, is_built, picture_of};
+ghost use Rattle.std.specs.Prelude.{◌≡◌, ◌++◌, [], Err, IfOk, IfErr, OnOk, IsSome, IsTrue, IsFalse, length};
+ghost use Rattle.make_engine.specs.Causes.{IsCopyCause, IsMakeCause, IsOutOfMemory};
+ghost use Rattle.make_engine.specs.Engine.{HasCopied, IsMade};
+ghost use Rattle.make_engine.specs.Package.{is_built, picture_of};
 ghost use Rattle.make_engine.specs.declared.engine.TheConstants.{PICTURE};
 ghost use Rattle.make_engine.specs.declared.item.TheConstants.{ROOM};
-ghost use Rattle.make_engine.specs.declared.outcome.BadWhy.{BadWhy};
-ghost use Rattle.mast_world.specs.Count.{HasRisen, counted, counted_on_ok};
-ghost use Rattle.mast_world.specs.declared.volume.FileId.{FileId};
+ghost use Rattle.mast_world.specs.Changes.{IsSameBeside, IsSameSource};
+ghost use Rattle.mast_world.specs.Count.{HasRisen, counted, counted_on_ok, IsFaultCount};
 ghost use Rattle.mast_world.specs.declared.volume.FileId.TheVariants.{Picture};
 
 use crate::frame::take_item;
@@ -19,12 +18,6 @@ use std::alloc::{AllocError, Global};
 
 const PICTURE: FileId = FileId::Picture(1);
 
-fn store_fault(_fault: Failed) -> MakeEnd
-    ensures { result ≡ MakeEnd.StoreFault }
-{
-    MakeEnd::StoreFault
-}
-
 fn make_room(alloc: Global, size: usize) -> Result<Vec<u8>, AllocError>
     ensures { IfOk result (λ room. length room.items ≡ size) }
 {
@@ -32,19 +25,15 @@ fn make_room(alloc: Global, size: usize) -> Result<Vec<u8>, AllocError>
 }
 
 /// Writes an item at the end of the picture file, which is at `place`.
-fn append<V: Volume>(volume: &mut V, place: u64, item: &[u8]) -> Result<(), MakeEnd>
+fn append<V: Volume>(volume: &mut V, place: u64, item: &[u8]) -> Result<(), Failed>
     requires end { V.tells → length (V.reads volume.old PICTURE) ≡ place }
 
     ensures written { V.tells → OnOk result (V.reads volume.new PICTURE ≡ V.reads volume.old PICTURE ++ item.now) }
-    ensures count_put { V.put volume.new PICTURE ≡ counted_on_ok (V.put volume.old PICTURE) (length item.now) result }
-    ensures other_put { (file : FileId) → file ≢ PICTURE → V.put volume.new file ≡ V.put volume.old file }
-    ensures other_reads { (file : FileId) → file ≢ PICTURE → V.reads volume.new file ≡ V.reads volume.old file }
-
-    ensures faults_kept { V.faults volume.old ≤ V.faults volume.new }
-    ensures fault { IsOkUnless result MakeEnd.StoreFault }
-    ensures cause { OnErr result (HasRisen (V.faults volume.old) (V.faults volume.new)) }
+    ensures put { V.put volume.new PICTURE ≡ counted_on_ok (V.put volume.old PICTURE) (length item.now) result }
+    ensures beside { IsSameBeside PICTURE V.reads V.put V.faults volume.old volume.new }
+    ensures faults { IsFaultCount (V.faults volume.old) (V.faults volume.new) result }
 {
-    volume.write(PICTURE, place, item).map_err(store_fault)
+    volume.write(PICTURE, place, item)
 }
 
 /// Puts all frames into the picture file, in order. `room` holds each item between the read of its
@@ -56,6 +45,7 @@ fn copy_frames<S: Source, V: Volume>(
     volume: &mut V,
     room: &mut [u8],
 ) -> Result<(), MakeEnd>
+    requires built { IsTrue (is_built plan.now.project) }
     requires room { length room.old ≡ ROOM }
     requires empty { V.tells → V.reads volume.old PICTURE ≡ [] }
 
@@ -64,21 +54,13 @@ fn copy_frames<S: Source, V: Volume>(
         (V.reads volume.new PICTURE) (S.taken source.old) (S.taken source.new)) }
     ensures put { V.tells
         → OnOk result (V.put volume.new PICTURE ≡ counted (V.put volume.old PICTURE) (length (V.reads volume.new PICTURE))) }
-    ensures other_put { (file : FileId) → file ≢ PICTURE → V.put volume.new file ≡ V.put volume.old file }
-    ensures other_reads { (file : FileId) → file ≢ PICTURE → V.reads volume.new file ≡ V.reads volume.old file }
 
-    ensures unbuilt { result ≡ Err MakeEnd.Unbuilt → IsFalse (is_built plan.now.project) }
-    ensures missing { (name : List ℕ) → result ≡ Err (MakeEnd.InputMissing name)
-        → IsMissingFrame S.tells (S.file source.old) plan.now.project name }
-    ensures missing_count { (name : List ℕ) → result ≡ Err (MakeEnd.InputMissing name)
-        → HasRisen (S.absent source.old) (S.absent source.new) }
-    ensures bad { (frame : ℕ) (why : BadWhy) → result ≡ Err (MakeEnd.BadFrame frame why)
-        → IsBadFrame S.tells (S.file source.old) plan.now.project frame why }
-    ensures source_fault { result ≡ Err MakeEnd.SourceFault → HasRisen (S.faults source.old) (S.faults source.new) }
-    ensures store_fault { result ≡ Err MakeEnd.StoreFault → HasRisen (V.faults volume.old) (V.faults volume.new) }
-
-    ensures faults_kept { S.faults source.old ≤ S.faults source.new }
-    ensures volume_faults_kept { V.faults volume.old ≤ V.faults volume.new }
+    ensures ended { IfErr result (IsCopyCause S.tells (S.file source.old) plan.now.project
+        S.absent S.faults source.old source.new V.faults volume.old volume.new) }
+    ensures source_untroubled { OnOk result (S.faults source.new ≡ S.faults source.old) }
+    ensures volume_untroubled { OnOk result (V.faults volume.new ≡ V.faults volume.old) }
+    ensures kept { IsSameSource S.file S.absent S.taken S.faults source.old source.new }
+    ensures beside { IsSameBeside PICTURE V.reads V.put V.faults volume.old volume.new }
 {
     let project = &plan.project;
     let mut held = 0;
@@ -101,53 +83,38 @@ pub fn make_alone<S: Source, V: Volume>(
     source: &mut S,
     volume: &mut V,
 ) -> Result<Report, MakeEnd>
-    // What was made, and how much was read for it.
-    ensures picture { S.tells → V.tells
-        → OnOk result (picture_of (S.file source.old) plan.now.project ≡ Some (V.reads volume.new (Picture 1))) }
-    ensures report { IfOk result (λ report. report ≡ record { frames = plan.now.project.frames; kept = 0 }) }
-    ensures taken { S.tells
-        → OnOk result (S.taken source.new ≡ counted (S.taken source.old) (frames_size (S.file source.old) plan.now.project)) }
-
-    // What was put, in bytes; other files stay.
+    // What was made, how much was read for it, and how much was put.
+    ensures made { S.tells → OnOk result (IsMade V.tells (S.file source.old) plan.now.project
+        (V.reads volume.new (Picture 1)) (S.taken source.old) (S.taken source.new)) }
     ensures put { V.tells
         → OnOk result (V.put volume.new (Picture 1) ≡ counted (V.put volume.old (Picture 1)) (length (V.reads volume.new (Picture 1)))) }
-    ensures other_put { (file : FileId) → file ≢ Picture 1 → V.put volume.new file ≡ V.put volume.old file }
-    ensures other_reads { (file : FileId) → file ≢ Picture 1 → V.reads volume.new file ≡ V.reads volume.old file }
+    ensures report { IfOk result (λ report. report ≡ record { frames = plan.now.project.frames; kept = 0 }) }
+    ensures source_untroubled { OnOk result (S.faults source.new ≡ S.faults source.old) }
+    ensures volume_untroubled { OnOk result (V.faults volume.new ≡ V.faults volume.old) }
 
-    // What isn't built yet is found out before the first write.
-    ensures unbuilt { result ≡ Err MakeEnd.Unbuilt → IsFalse (is_built plan.now.project) }
+    // Why nothing was made, by the ending. What isn't built yet ends so.
+    ensures ended { IfErr result (IsMakeCause S.tells (S.file source.old) plan.now.project
+        S.absent S.faults source.old source.new V.reads V.put V.faults volume.old volume.new) }
     ensures not_built { IsFalse (is_built plan.now.project) → result ≡ Err MakeEnd.Unbuilt }
-    ensures unwritten { result ≡ Err MakeEnd.Unbuilt
-        → IsUnwritten (V.reads volume.old) (V.reads volume.new) (V.put volume.old) (V.put volume.new) }
 
-    // Inputs that aren't there, or break their form.
-    ensures missing { (name : List ℕ) → result ≡ Err (MakeEnd.InputMissing name)
-        → IsMissingFrame S.tells (S.file source.old) plan.now.project name }
-    ensures missing_count { (name : List ℕ) → result ≡ Err (MakeEnd.InputMissing name)
-        → HasRisen (S.absent source.old) (S.absent source.new) }
-    ensures bad { (frame : ℕ) (why : BadWhy) → result ≡ Err (MakeEnd.BadFrame frame why)
-        → IsBadFrame S.tells (S.file source.old) plan.now.project frame why }
-
-    // A fault is a device's.
-    ensures source_fault { result ≡ Err MakeEnd.SourceFault → HasRisen (S.faults source.old) (S.faults source.new) }
-    ensures store_fault { result ≡ Err MakeEnd.StoreFault → HasRisen (V.faults volume.old) (V.faults volume.new) }
-    ensures faults_kept { S.faults source.old ≤ S.faults source.new }
-    ensures volume_faults_kept { V.faults volume.old ≤ V.faults volume.new }
+    // What stays in any case.
+    ensures kept { IsSameSource S.file S.absent S.taken S.faults source.old source.new }
+    ensures beside { IsSameBeside (Picture 1) V.reads V.put V.faults volume.old volume.new }
 
     // Where there is a package and no device fails, nothing but want of memory keeps it from being made.
     ensures complete { S.tells → IsTrue (is_built plan.now.project)
         → IsSome (picture_of (S.file source.old) plan.now.project)
         → ¬ HasRisen (S.faults source.old) (S.faults source.new)
         → ¬ HasRisen (V.faults volume.old) (V.faults volume.new)
-        → (result ≡ Err MakeEnd.NoMemory) ⊎ (result ≡ Ok (record { frames = plan.now.project.frames; kept = 0 })) }
+        → IfErr result IsOutOfMemory }
 {
     if !is_built(plan) {
         return Err(MakeEnd::Unbuilt);
     }
     let mut room = make_room(alloc, ROOM)?;
-    volume.cut(PICTURE, 0).map_err(store_fault)?;
+    volume.cut(PICTURE, 0)?;
     copy_frames(alloc, plan, source, volume, room.as_mut_slice())?;
-    volume.sync(PICTURE).map_err(store_fault)?;
+    volume.sync(PICTURE)?;
     Ok(Report {
         frames: plan.project.frames,
         kept: 0,

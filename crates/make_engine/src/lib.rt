@@ -8,4 +8,4 @@ mod outcome;
 mod ready;
 
 pub use engine::make_alone;
-pub use outcome::{BadWhy, MakeEnd, Options, Report};
+pub use outcome::{BadWhy, FrameEnd, MakeEnd, Options, Report};

@@ -1,7 +1,8 @@
 ghost use Rattle.std.specs.Prelude.{◌≡◌};
 
 use mast_base::{Bytes, NoMemory};
-use std::alloc::{AllocError, AllocFailed};
+use mast_world::Failed;
+use std::alloc::AllocError;
 
 /// How a run is to be done. None of it shows in the package.
 #[derive(Clone, Copy, Debug, PartialEq, Eq)]
@@ -29,28 +30,81 @@ pub enum BadWhy {
     Limit { part: u8, got: u64 },
 }
 
-/// Why no package was made.
+/// Why a frame has no item.
 #[derive(Debug, Drop)]
-pub enum MakeEnd {
+pub enum FrameEnd {
     /// There is no file of this name.
-    InputMissing { name: Bytes },
-    BadFrame { frame: u32, why: BadWhy },
+    Missing { name: Bytes },
+    Bad { frame: u32, why: BadWhy },
     SourceFault,
-    StoreFault,
-    /// The plan asks for what isn't built yet.
-    Unbuilt,
-    /// Memory ran out.
     NoMemory,
 }
 
-impl From<NoMemory> for MakeEnd {
-    ghost use Rattle.std.specs.Prelude.{◌≡◌};
-    ghost use Rattle.make_engine.specs.declared.outcome.MakeEnd.TheVariants.{NoMemory};
+/// Why no package was made.
+#[derive(Debug, Drop)]
+pub enum MakeEnd {
+    Frame(FrameEnd),
+    StoreFault,
+    /// The plan asks for what isn't built yet.
+    Unbuilt,
+    /// There was no memory for the room that all frames share.
+    NoMemory,
+}
 
-    ghost from_gives = { λ _ e. e ≡ NoMemory };
+impl From<NoMemory> for FrameEnd {
+    ghost use Rattle.std.specs.Prelude.{◌≡◌};
+    ghost use Rattle.make_engine.specs.declared.outcome.FrameEnd.TheVariants.{NoMemory};
+
+    ghost from_gives = { λ _ end. end ≡ NoMemory };
 
     fn from(_error: NoMemory) -> Self {
-        MakeEnd::NoMemory
+        FrameEnd::NoMemory
+    }
+}
+
+impl From<AllocError> for FrameEnd {
+    ghost use Rattle.std.specs.Prelude.{◌≡◌};
+    ghost use Rattle.make_engine.specs.declared.outcome.FrameEnd.TheVariants.{NoMemory};
+
+    ghost from_gives = { λ _ end. end ≡ NoMemory };
+
+    fn from(_error: AllocError) -> Self {
+        FrameEnd::NoMemory
+    }
+}
+
+impl From<Failed> for FrameEnd {
+    ghost use Rattle.std.specs.Prelude.{◌≡◌};
+    ghost use Rattle.make_engine.specs.declared.outcome.FrameEnd.TheVariants.{SourceFault};
+
+    ghost from_gives = { λ _ end. end ≡ SourceFault };
+
+    // What fails where a frame is read is the source.
+    fn from(_fault: Failed) -> Self {
+        FrameEnd::SourceFault
+    }
+}
+
+impl From<Failed> for MakeEnd {
+    ghost use Rattle.std.specs.Prelude.{◌≡◌};
+    ghost use Rattle.make_engine.specs.declared.outcome.MakeEnd.TheVariants.{StoreFault};
+
+    ghost from_gives = { λ _ end. end ≡ StoreFault };
+
+    // What fails beside the frames is the volume.
+    fn from(_fault: Failed) -> Self {
+        MakeEnd::StoreFault
+    }
+}
+
+impl From<FrameEnd> for MakeEnd {
+    ghost use Rattle.std.specs.Prelude.{◌≡◌};
+    ghost use Rattle.make_engine.specs.declared.outcome.MakeEnd.TheVariants.{Frame};
+
+    ghost from_gives = { λ end made. made ≡ Frame end };
+
+    fn from(end: FrameEnd) -> Self {
+        MakeEnd::Frame(end)
     }
 }
 
@@ -58,7 +112,7 @@ impl From<AllocError> for MakeEnd {
     ghost use Rattle.std.specs.Prelude.{◌≡◌};
     ghost use Rattle.make_engine.specs.declared.outcome.MakeEnd.TheVariants.{NoMemory};
 
-    ghost from_gives = { λ _ e. e ≡ NoMemory };
+    ghost from_gives = { λ _ end. end ≡ NoMemory };
 
     fn from(_error: AllocError) -> Self {
         MakeEnd::NoMemory

@@ -1,5 +1,5 @@
 -- Counts of 64 bits, which rise and stand still at their end.
-use Rattle.std.specs.Prelude.{ℕ, ◌+◌, ◌-◌, ◌^◌, ◌≤◌, min, max, Option, Some, None, Result, Ok, Err}
+use Rattle.std.specs.Prelude.{◌≡◌, ℕ, ◌+◌, ◌-◌, ◌^◌, ◌≤◌, min, max, Option, Some, None, Result, Ok, Err}
 
 -- a count after n more; at its end it stands still
 abbrev pub counted : ℕ → ℕ → ℕ
@@ -8,6 +8,11 @@ counted count n = max count (min (count + n) (2 ^ 64 - 1))
 -- a count has risen; one that stands at its end counts as risen
 abbrev pub HasRisen : ℕ → ℕ → Type 0
 HasRisen before now = counted before 1 ≤ now
+
+-- a count of faults behind a call: it has risen where the call failed, and is as it was where it didn't
+abbrev pub IsFaultCount : {T E : Type 0} → ℕ → ℕ → Result T E → Type 0
+IsFaultCount before now (Ok _) = now ≡ before
+IsFaultCount before now (Err _) = HasRisen before now
 
 -- a count of what was done, after a call that was to do n more
 abbrev pub counted_on_ok : {T E : Type 0} → ℕ → ℕ → Result T E → ℕ

@@ -1,5 +1,5 @@
-ghost use Rattle.std.specs.Prelude.{◌≡◌, ◌≤◌, ◌++◌, ℕ, List, take, OnOk, OnErr};
-ghost use Rattle.mast_world.specs.Count.{HasRisen};
+ghost use Rattle.std.specs.Prelude.{◌≡◌, ◌++◌, ℕ, List, take, OnOk, OnErr};
+ghost use Rattle.mast_world.specs.Count.{IsFaultCount};
 
 use crate::Failed;
 
@@ -19,6 +19,5 @@ pub trait Sink {
         ensures ok { tells → OnOk result (written self.new ≡ written self.old ++ bytes.now) }
         ensures err { tells → OnErr result ((n : ℕ) × (written self.new ≡ written self.old ++ take n bytes.now)) }
 
-        ensures faults_kept { faults self.old ≤ faults self.new }
-        ensures cause { OnErr result (HasRisen (faults self.old) (faults self.new)) };
+        ensures faults { IsFaultCount (faults self.old) (faults self.new) result };
 }

@@ -1,6 +1,6 @@
-ghost use Rattle.std.specs.Prelude.{◌≡◌, ◌≤◌, ◌+◌, ℕ, List, Option, length, option_map, IfOk, OnOk, OnErr};
+ghost use Rattle.std.specs.Prelude.{◌≡◌, ◌+◌, ℕ, List, Option, length, option_map, IfOk, OnOk};
 ghost use Rattle.mast_world.specs.Content.{part_of, Reaches};
-ghost use Rattle.mast_world.specs.Count.{counted_on_none, counted_on_ok, HasRisen};
+ghost use Rattle.mast_world.specs.Count.{counted_on_none, counted_on_ok, IsFaultCount};
 
 use crate::Failed;
 
@@ -29,8 +29,7 @@ pub trait Source {
         ensures same_files { file self.new ≡ file self.old }
         ensures same_taken { taken self.new ≡ taken self.old }
 
-        ensures faults_kept { faults self.old ≤ faults self.new }
-        ensures cause { OnErr result (HasRisen (faults self.old) (faults self.new)) };
+        ensures faults { IsFaultCount (faults self.old) (faults self.new) result };
 
     /// Fills `into` with the bytes of a file from the place `at` on.
     fn read(&mut self, name: &[u8], at: u64, into: &mut [u8]) -> Result<(), Failed>
@@ -42,6 +41,5 @@ pub trait Source {
         ensures same_files { file self.new ≡ file self.old }
         ensures same_absent { absent self.new ≡ absent self.old }
 
-        ensures faults_kept { faults self.old ≤ faults self.new }
-        ensures cause { OnErr result (HasRisen (faults self.old) (faults self.new)) };
+        ensures faults { IsFaultCount (faults self.old) (faults self.new) result };
 }

@@ -1,6 +1,6 @@
-ghost use Rattle.std.specs.Prelude.{◌≡◌, ◌≢◌, ◌≤◌, ◌+◌, ℕ, List, length, take, IfOk, OnOk, OnErr};
+ghost use Rattle.std.specs.Prelude.{◌≡◌, ◌≢◌, ◌≤◌, ◌+◌, ℕ, List, length, take, IfOk, OnOk};
 ghost use Rattle.mast_world.specs.Content.{part, overwritten};
-ghost use Rattle.mast_world.specs.Count.{counted_on_ok, HasRisen};
+ghost use Rattle.mast_world.specs.Count.{counted_on_ok, IsFaultCount};
 ghost use Rattle.mast_world.specs.declared.volume.FileId.{FileId};
 
 use crate::Failed;
@@ -40,8 +40,7 @@ pub trait Volume {
         ensures same_reads { reads self.new ≡ reads self.old }
         ensures same_put { put self.new ≡ put self.old }
 
-        ensures faults_kept { faults self.old ≤ faults self.new }
-        ensures cause { OnErr result (HasRisen (faults self.old) (faults self.new)) };
+        ensures faults { IsFaultCount (faults self.old) (faults self.new) result };
 
     /// Fills `into` with the bytes of a file from the place `at` on.
     fn read(&mut self, file: FileId, at: u64, into: &mut [u8]) -> Result<(), Failed>
@@ -52,8 +51,7 @@ pub trait Volume {
         ensures same_reads { reads self.new ≡ reads self.old }
         ensures same_put { put self.new ≡ put self.old }
 
-        ensures faults_kept { faults self.old ≤ faults self.new }
-        ensures cause { OnErr result (HasRisen (faults self.old) (faults self.new)) };
+        ensures faults { IsFaultCount (faults self.old) (faults self.new) result };
 
     /// Writes over what a file has from the place `at` on, and past its end.
     fn write(&mut self, file: FileId, at: u64, bytes: &[u8]) -> Result<(), Failed>
@@ -65,8 +63,7 @@ pub trait Volume {
         ensures count_put { put self.new file ≡ counted_on_ok (put self.old file) (length bytes.now) result }
         ensures other_put { (f : FileId) → f ≢ file → put self.new f ≡ put self.old f }
 
-        ensures faults_kept { faults self.old ≤ faults self.new }
-        ensures cause { OnErr result (HasRisen (faults self.old) (faults self.new)) };
+        ensures faults { IsFaultCount (faults self.old) (faults self.new) result };
 
     /// Shortens a file to `len` bytes. One that isn't longer stays as it is.
     fn cut(&mut self, file: FileId, len: u64) -> Result<(), Failed>
@@ -75,14 +72,12 @@ pub trait Volume {
 
         ensures same_put { put self.new ≡ put self.old }
 
-        ensures faults_kept { faults self.old ≤ faults self.new }
-        ensures cause { OnErr result (HasRisen (faults self.old) (faults self.new)) };
+        ensures faults { IsFaultCount (faults self.old) (faults self.new) result };
 
     /// Waits until the file is on the disk.
     fn sync(&mut self, file: FileId) -> Result<(), Failed>
         ensures same_reads { reads self.new ≡ reads self.old }
         ensures same_put { put self.new ≡ put self.old }
 
-        ensures faults_kept { faults self.old ≤ faults self.new }
-        ensures cause { OnErr result (HasRisen (faults self.old) (faults self.new)) };
+        ensures faults { IsFaultCount (faults self.old) (faults self.new) result };
 }

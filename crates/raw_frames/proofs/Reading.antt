@@ -54,14 +54,14 @@ ppm-bad (Some bytes) width height first size have bad there is wrong =
 
 -- the cause of a refusal, as it is seen from an earlier state
 pub cause-earlier :
-    (tells : Type 0) (later shown : Result (List ℕ) FrameRefusal) (absent between absent_now faults risen faults_now : ℕ) (why : FrameRefusal) →
-    (tells → later ≡ shown) → absent ≤ between → faults ≤ risen →
-    IsCause tells later between absent_now risen faults_now why → IsCause tells shown absent absent_now faults faults_now why
-cause-earlier tells later shown absent between absent_now faults risen faults_now Missing same less fewer is = (λ told. sym (same told) ∙ is.0 told, omega (arith, is.1))
-cause-earlier tells later shown absent between absent_now faults risen faults_now (BadHeader at) same less fewer is = λ told. sym (same told) ∙ is told
-cause-earlier tells later shown absent between absent_now faults risen faults_now (Short size need) same less fewer is = (is.0, λ told. sym (same told) ∙ is.1 told)
-cause-earlier tells later shown absent between absent_now faults risen faults_now SourceFault same less fewer is = omega (arith, is)
-cause-earlier tells later shown absent between absent_now faults risen faults_now NoMemory same less fewer is = tt
+    {A : Type 0} (tells : Type 0) (later shown : Result (List ℕ) FrameRefusal) (absent faults : A → ℕ) (before between now : A) (why : FrameRefusal) →
+    (tells → later ≡ shown) → absent before ≤ absent between → faults before ≤ faults between →
+    IsCause tells later absent faults between now why → IsCause tells shown absent faults before now why
+cause-earlier tells later shown absent faults before between now Missing same less fewer is = (λ told. sym (same told) ∙ is.0 told, omega (arith, is.1))
+cause-earlier tells later shown absent faults before between now (BadHeader at) same less fewer is = λ told. sym (same told) ∙ is told
+cause-earlier tells later shown absent faults before between now (Short size need) same less fewer is = (is.0, λ told. sym (same told) ∙ is.1 told)
+cause-earlier tells later shown absent faults before between now SourceFault same less fewer is = omega (arith, is)
+cause-earlier tells later shown absent faults before between now NoMemory same less fewer is = tt
 
 pub IfErr-from : {T : Type 0} (r : Result T FrameRefusal) (P Q : FrameRefusal → Type 0) → ((why : FrameRefusal) → P why → Q why) → IfErr r P → IfErr r Q
 IfErr-from (Ok x) P Q f h = tt

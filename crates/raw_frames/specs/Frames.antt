@@ -36,12 +36,12 @@ of_file frame None = Err Missing
 of_file frame (Some bytes) = frame bytes
 
 -- what is behind a refusal: what the file shows, where that is told, or what the source counted
-abbrev pub IsCause : Type 0 → Result (List ℕ) FrameRefusal → ℕ → ℕ → ℕ → ℕ → FrameRefusal → Type 0
-IsCause tells shown absent_before absent_now faults_before faults_now Missing = (tells → shown ≡ Err Missing) × HasRisen absent_before absent_now
-IsCause tells shown absent_before absent_now faults_before faults_now (BadHeader at) = tells → shown ≡ Err (BadHeader at)
-IsCause tells shown absent_before absent_now faults_before faults_now (Short size need) = (size < need) × (tells → shown ≡ Err (Short size need))
-IsCause tells shown absent_before absent_now faults_before faults_now SourceFault = HasRisen faults_before faults_now
-IsCause tells shown absent_before absent_now faults_before faults_now NoMemory = ⊤
+abbrev pub IsCause : {A : Type 0} → Type 0 → Result (List ℕ) FrameRefusal → (A → ℕ) → (A → ℕ) → A → A → FrameRefusal → Type 0
+IsCause tells shown absent faults before now Missing = (tells → shown ≡ Err Missing) × HasRisen (absent before) (absent now)
+IsCause tells shown absent faults before now (BadHeader at) = tells → shown ≡ Err (BadHeader at)
+IsCause tells shown absent faults before now (Short size need) = (size < need) × (tells → shown ≡ Err (Short size need))
+IsCause tells shown absent faults before now SourceFault = HasRisen (faults before) (faults now)
+IsCause tells shown absent faults before now NoMemory = ⊤
 
 -- the first bytes were read, up to 1024 of them, and then the pixels
 pub record TakesPicture (tells : Type 0) (file : Option (List ℕ)) (size before now : ℕ) : Type 0 where

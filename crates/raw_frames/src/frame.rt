@@ -2,6 +2,7 @@ ghost use Rattle.std.specs.Prelude.{◌≡◌, ◌≢◌, ◌≤◌, ◌<◌, []
 ghost use Rattle.film_project.specs.declared.asset.AssetKind.TheVariants.{J2c, Pcm24};
 ghost use Rattle.raw_frames.specs.Frames.{frame_size, IsCause};
 ghost use Rattle.raw_frames.specs.Kinds.{shown_frame, TakesFrame};
+ghost use Rattle.mast_world.specs.Changes.{IsSameSource};
 
 use crate::input::{read_ppm, read_rgb48};
 use crate::refusal::FrameRefusal;
@@ -35,12 +36,10 @@ pub fn read_frame<S: Source>(
     ensures taken { OnOk result (TakesFrame asset.now.kind S.tells (S.file source.old) asset.now.file index
         (frame_size width height) (S.taken source.old) (S.taken source.new)) }
     ensures cause { IfErr result (IsCause S.tells (shown_frame asset.now.kind (S.file source.old) asset.now.file index width height)
-        (S.absent source.old) (S.absent source.new) (S.faults source.old) (S.faults source.new)) }
+        S.absent S.faults source.old source.new) }
 
-    ensures same_files { S.file source.new ≡ S.file source.old }
-    ensures absent_kept { S.absent source.old ≤ S.absent source.new }
-    ensures taken_kept { S.taken source.old ≤ S.taken source.new }
-    ensures faults_kept { S.faults source.old ≤ S.faults source.new }
+    ensures untroubled { OnOk result (S.faults source.new ≡ S.faults source.old) }
+    ensures kept { IsSameSource S.file S.absent S.taken S.faults source.old source.new }
 {
     match asset.kind {
         AssetKind::Rgb48 => read_rgb48(

@@ -4,6 +4,7 @@ ghost use Rattle.frame_files.specs.Name.{frame_name};
 ghost use Rattle.frame_files.specs.declared.name.FrameFormat.TheVariants as format;
 ghost use Rattle.mast_world.specs.Count.{counted};
 ghost use Rattle.raw_frames.specs.Frames.{frame_size, of_file, ppm_frame, rgb48_frame, IsCause, TakesPicture};
+ghost use Rattle.mast_world.specs.Changes.{IsSameSource};
 
 use crate::pixels::{ppm_pixels, rgb48_pixels};
 use crate::refusal::FrameRefusal;
@@ -64,12 +65,10 @@ pub fn read_rgb48<S: Source>(
     ensures empty { OnErr result (into.new ≡ []) }
     ensures taken { OnOk result (S.taken source.new ≡ counted (S.taken source.old) (frame_size width height)) }
     ensures cause { IfErr result (IsCause S.tells (of_file (rgb48_frame index (frame_size width height)) (S.file source.old file.now))
-        (S.absent source.old) (S.absent source.new) (S.faults source.old) (S.faults source.new)) }
+        S.absent S.faults source.old source.new) }
 
-    ensures same_files { S.file source.new ≡ S.file source.old }
-    ensures absent_kept { S.absent source.old ≤ S.absent source.new }
-    ensures taken_kept { S.taken source.old ≤ S.taken source.new }
-    ensures faults_kept { S.faults source.old ≤ S.faults source.new }
+    ensures untroubled { OnOk result (S.faults source.new ≡ S.faults source.old) }
+    ensures kept { IsSameSource S.file S.absent S.taken S.faults source.old source.new }
 {
     let mut room = take_room(alloc, into, frame_size(width, height))?;
     let read = rgb48_pixels(source, file, index, room.as_mut_slice());
@@ -97,12 +96,10 @@ pub fn read_ppm<S: Source>(
         (frame_size width height) (S.taken source.old) (S.taken source.new)) }
     ensures cause { IfErr result (IsCause S.tells (of_file (ppm_frame (decimal width) (decimal height) (frame_size width height))
         (S.file source.old (frame_name folder.now index format.Ppm)))
-        (S.absent source.old) (S.absent source.new) (S.faults source.old) (S.faults source.new)) }
+        S.absent S.faults source.old source.new) }
 
-    ensures same_files { S.file source.new ≡ S.file source.old }
-    ensures absent_kept { S.absent source.old ≤ S.absent source.new }
-    ensures taken_kept { S.taken source.old ≤ S.taken source.new }
-    ensures faults_kept { S.faults source.old ≤ S.faults source.new }
+    ensures untroubled { OnOk result (S.faults source.new ≡ S.faults source.old) }
+    ensures kept { IsSameSource S.file S.absent S.taken S.faults source.old source.new }
 {
     let mut room = take_room(alloc, into, frame_size(width, height))?;
     let name = frame_name(alloc, folder, index, FrameFormat::Ppm)?;

@@ -1,6 +1,7 @@
 ghost use Rattle.std.specs.Prelude.{◌≡◌, ◌+◌, ◌*◌, ◌^◌, ◌<◌, ◌≤◌, Some, OnOk, IfErr, length, option_map, List, ℕ};
 ghost use Rattle.mast_world.specs.Count.{counted};
 ghost use Rattle.raw_frames.specs.Frames.{of_file, pixels_at, ppm_frame, rgb48_frame, IsCause, TakesPicture};
+ghost use Rattle.mast_world.specs.Changes.{IsSameSource};
 
 use crate::refusal::FrameRefusal;
 use mast_world::Source;
@@ -24,12 +25,11 @@ fn read_pixels<S: Source>(
         (of_file (pixels_at at (length pixels.old)) (S.file source.old name.now) ≡ Ok pixels.new) }
     ensures taken { OnOk result (S.taken source.new ≡ counted (S.taken source.old) (length pixels.old)) }
     ensures cause { IfErr result (IsCause S.tells (of_file (pixels_at at (length pixels.old)) (S.file source.old name.now))
-        (S.absent source.old) (S.absent source.new) (S.faults source.old) (S.faults source.new)) }
+        S.absent S.faults source.old source.new) }
 
-    ensures same_files { S.file source.new ≡ S.file source.old }
     ensures same_absent { S.absent source.new ≡ S.absent source.old }
-    ensures taken_kept { S.taken source.old ≤ S.taken source.new }
-    ensures faults_kept { S.faults source.old ≤ S.faults source.new }
+    ensures untroubled { OnOk result (S.faults source.new ≡ S.faults source.old) }
+    ensures kept { IsSameSource S.file S.absent S.taken S.faults source.old source.new }
 {
     let need = at + pixels.len() as u64;
     if have < need {
@@ -52,12 +52,10 @@ pub(crate) fn rgb48_pixels<S: Source>(
         (of_file (rgb48_frame index (length pixels.old)) (S.file source.old file.now) ≡ Ok pixels.new) }
     ensures taken { OnOk result (S.taken source.new ≡ counted (S.taken source.old) (length pixels.old)) }
     ensures cause { IfErr result (IsCause S.tells (of_file (rgb48_frame index (length pixels.old)) (S.file source.old file.now))
-        (S.absent source.old) (S.absent source.new) (S.faults source.old) (S.faults source.new)) }
+        S.absent S.faults source.old source.new) }
 
-    ensures same_files { S.file source.new ≡ S.file source.old }
-    ensures absent_kept { S.absent source.old ≤ S.absent source.new }
-    ensures taken_kept { S.taken source.old ≤ S.taken source.new }
-    ensures faults_kept { S.faults source.old ≤ S.faults source.new }
+    ensures untroubled { OnOk result (S.faults source.new ≡ S.faults source.old) }
+    ensures kept { IsSameSource S.file S.absent S.taken S.faults source.old source.new }
 {
     let Some(have) = source.find(file)? else {
         return Err(FrameRefusal::Missing);
@@ -84,12 +82,10 @@ pub(crate) fn ppm_pixels<S: Source>(
         (S.taken source.old) (S.taken source.new)) }
     ensures cause { IfErr result (IsCause S.tells
         (of_file (ppm_frame width.now height.now (length pixels.old)) (S.file source.old name.now))
-        (S.absent source.old) (S.absent source.new) (S.faults source.old) (S.faults source.new)) }
+        S.absent S.faults source.old source.new) }
 
-    ensures same_files { S.file source.new ≡ S.file source.old }
-    ensures absent_kept { S.absent source.old ≤ S.absent source.new }
-    ensures taken_kept { S.taken source.old ≤ S.taken source.new }
-    ensures faults_kept { S.faults source.old ≤ S.faults source.new }
+    ensures untroubled { OnOk result (S.faults source.new ≡ S.faults source.old) }
+    ensures kept { IsSameSource S.file S.absent S.taken S.faults source.old source.new }
 {
     let Some(have) = source.find(name)? else {
         return Err(FrameRefusal::Missing);

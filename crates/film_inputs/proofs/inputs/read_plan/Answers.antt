@@ -1,38 +1,51 @@
-use Rattle.std.proofs.Common.{◌≡◌, Some, None, Ok, Err, ap, sym, subst, ◌∙◌}
+use Rattle.std.proofs.Common.{◌≡◌, None, Ok, Err, ap, sym, subst, ◌∙◌}
 use Rattle.std.proofs.lemmas.Result.{err_from_is_err_and}
-use Rattle.film_plan.specs.declared.refusal.PlanRefusal.TheVariants as plan
 use Rattle.film_plan.specs.Needs.{first_short}
 use Rattle.film_project.specs.Accepts.{accepts}
-use Rattle.film_inputs.specs.Inputs.{missing_input, short_end, sizes_of}
-use Rattle.film_inputs.specs.declared.inputs.PlanEnd.TheVariants.{InputMissing, InputShort}
-use Rattle.film_inputs.proofs.Planning.{none_is_missing, short_end_is, short_ends}
+use Rattle.film_project.specs.Rules.{IsProject}
+use Rattle.film_inputs.specs.Causes.{IsGoneInput, IsInputCause, IsPlanCause}
+use Rattle.film_inputs.specs.Inputs.{missing_input, sizes_of}
+use Rattle.film_inputs.specs.declared.ends.PlanEnd.TheVariants.{Input, Plan}
+use Rattle.film_inputs.proofs.Planning.{cause_of, ended_by, of_input, of_short}
 use Rattle.film_inputs.proofs.inputs.read_plan.Goals as goal
 
-pub returns-in_err-plan-clause-ended : goal.returns-in_err-plan-clause-ended
-returns-in_err-plan-clause-ended g c = λ end e tells.
-    let p = err_from_is_err_and c.from_residual-in_err-plan.result c.from_residual-in_err-plan.ensures.1 in
-    let files = g.S.Source.file c.args.source.now in
-    let refusal = c.in_err-plan.field-0.0 in
-    let is : short_end refusal ≡ end = cc (e, p.1, p.2) in
+pub returns-in_err-sizes-clause-ended : goal.returns-in_err-sizes-clause-ended
+returns-in_err-sizes-clause-ended g c =
+    let source = g.S.Source in
+    let files = source.file c.args.source.now in
+    let name = c.args.name.now in
+    let between = c.read_text.new.source in
+    let now = c.find_sizes.new.source in
     let project = c.in_ok-project.project in
-    let there : files c.args.name.now ≡ Some c.in_ok-text.text.items = c.in_ok-text.ensures.read tells in
+    let end = c.in_err-sizes.field-0.0 in
+    let p = err_from_is_err_and c.from_residual-in_err-sizes.result c.from_residual-in_err-sizes.ensures.1 in
     let accepted : accepts c.in_ok-text.text.items ≡ Ok project = ap accepts (sym c.as_slice.ensures.value) ∙ sym c.in_ok-project.ensures in
-    let none : missing_input files project ≡ None =
-    subst (λ files. missing_input files project ≡ None) c.read_text.ensures.same_files (c.in_ok-sizes.ensures.there tells) in
-    let sizes : c.as_slice-2.result.now ≡ sizes_of files project =
-    c.as_slice-2.ensures.value ∙ c.in_ok-sizes.ensures.sizes tells ∙ ap (λ files. sizes_of files project) c.read_text.ensures.same_files in
-    short_ends files c.args.name.now c.in_ok-text.text.items project refusal end is there accepted none
-    (λ asset size need short. ap (first_short project) (sym sizes) ∙ c.plan.ensures.short asset size need (c.in_err-plan.was ∙ ap Err short))
+    let gone = cause_of c.find_sizes.result end (IsInputCause source.absent source.faults between now (IsGoneInput source.tells (source.file between) project)) c.in_err-sizes.was c.find_sizes.ensures.ended in
+    ended_by c.from_residual-in_err-sizes.result p.0 (Input end) (IsPlanCause source.tells files name source.absent source.faults c.args.source.now now) p.1 p.2
+    (of_input source.tells files name c.in_ok-text.text.items project source.absent source.faults c.args.source.now between now end
+    c.read_text.ensures.kept.absent_kept c.read_text.ensures.kept.faults_kept (subst (λ p. IsProject p) c.project.view_is c.project.invariant) c.in_ok-text.ensures.read accepted
+    (rw c.read_text.ensures.kept.same_files at gone))
 
-pub returns-in_err-plan-clause-missing_count : goal.returns-in_err-plan-clause-missing_count
-returns-in_err-plan-clause-missing_count g c = λ name e.
+pub returns-in_err-plan-clause-ended : goal.returns-in_err-plan-clause-ended
+returns-in_err-plan-clause-ended g c =
+    let source = g.S.Source in
+    let files = source.file c.args.source.now in
+    let name = c.args.name.now in
+    let between = c.read_text.new.source in
+    let project = c.in_ok-project.project in
+    let refusal = c.in_err-plan.field-0.0 in
     let p = err_from_is_err_and c.from_residual-in_err-plan.result c.from_residual-in_err-plan.ensures.1 in
-    let is : short_end c.in_err-plan.field-0.0 ≡ InputMissing name = cc (e, p.1, p.2) in
-    absurd (none_is_missing c.in_err-plan.field-0.0 name is)
-
-pub returns-in_err-plan-clause-short : goal.returns-in_err-plan-clause-short
-returns-in_err-plan-clause-short g c = λ asset size need e.
-    let p = err_from_is_err_and c.from_residual-in_err-plan.result c.from_residual-in_err-plan.ensures.1 in
-    let is : short_end c.in_err-plan.field-0.0 ≡ InputShort asset size need = cc (e, p.1, p.2) in
-    let was : c.plan.result ≡ Err (plan.InputShort asset size need) = c.in_err-plan.was ∙ ap Err (short_end_is c.in_err-plan.field-0.0 asset size need is) in
-    c.plan.ensures.less asset size need was
+    let accepted : accepts c.in_ok-text.text.items ≡ Ok project = ap accepts (sym c.as_slice.ensures.value) ∙ sym c.in_ok-project.ensures in
+    let kept = c.read_text.ensures.kept.same_files in
+    ended_by c.from_residual-in_err-plan.result p.0 (Plan refusal) (IsPlanCause source.tells files name source.absent source.faults c.args.source.now c.find_sizes.new.source) p.1 p.2
+    (of_short source.tells files name c.in_ok-text.text.items project source.absent source.faults c.args.source.now c.find_sizes.new.source refusal
+    c.in_ok-text.ensures.read accepted
+    (λ tells. subst (λ files. missing_input files project ≡ None) kept (c.in_ok-sizes.ensures.there tells))
+    (λ asset size need is.
+    let was = c.in_err-plan.was ∙ ap Err is in (
+      c.plan.ensures.less asset size need was,
+      λ tells.
+          let sizes : c.as_slice-2.result.now ≡ sizes_of files project =
+          c.as_slice-2.ensures.value ∙ c.in_ok-sizes.ensures.sizes tells ∙ ap (λ files. sizes_of files project) kept in
+          ap (first_short project) (sym sizes) ∙ c.plan.ensures.short asset size need was,
+    )))

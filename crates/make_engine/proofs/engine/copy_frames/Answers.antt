@@ -1,5 +1,6 @@
 use Rattle.std.proofs.Common.{◌≡◌, ℕ, ◌∙◌, [], refl, ap, subst, arith, length, take}
 use Rattle.std.proofs.lemmas.List.{length-append, length-take-le}
+use Rattle.mast_world.proofs.Kept.{beside_kept, beside_kept_on, source_kept, source_kept_on}
 use Rattle.make_engine.specs.Engine.{HasCopied, TakesItem}
 use Rattle.make_engine.proofs.Frames.{HasCopied_more, counted_next, held_next}
 use Rattle.make_engine.specs.declared.engine.TheConstants.{PICTURE}
@@ -13,16 +14,14 @@ loop-frame-init g c = record {
   held = λ tells later. absurd (omega (arith, later));
   copied = λ tells. record { values = []; fresh = []; shown = refl; read = refl; written = λ told. c.requires.empty told; taken = omega arith };
   put = omega arith;
-  other_put = λ file other. refl;
-  other_reads = λ file other. refl;
-  files = refl;
-  faults = omega arith;
-  volume_faults = omega arith;
-  absent = omega arith;
+  source_untroubled = refl;
+  volume_untroubled = refl;
+  kept = source_kept g.S.Source.file g.S.Source.absent g.S.Source.taken g.S.Source.faults c.args.source.now;
+  beside = beside_kept PICTURE g.V.Volume.reads g.V.Volume.put g.V.Volume.faults c.args.volume.now;
 }
 
 pub take_item-requires-clause-held : goal.take_item-requires-clause-held
-take_item-requires-clause-held g c = λ tells later. rw c.loop-frame.invariant.files (c.loop-frame.invariant.held tells later)
+take_item-requires-clause-held g c = λ tells later. rw c.loop-frame.invariant.kept.same_files (c.loop-frame.invariant.held tells later)
 
 pub loop-frame-preserved : goal.loop-frame-preserved
 loop-frame-preserved g c =
@@ -37,7 +36,7 @@ loop-frame-preserved g c =
     let size : length item ≡ held = length-take-le held c.take_item.new.room (omega (arith, step.size, c.take_item.auto.room)) in
     let taken = g.S.Source.taken c.loop-frame.source in
     let now = g.S.Source.taken c.take_item.new.source in
-    let took : g.S.Source.tells → TakesItem files project c.loop-frame.frame item taken now = λ tells. rw (← before.files) (step.item tells) in
+    let took : g.S.Source.tells → TakesItem files project c.loop-frame.frame item taken now = λ tells. rw (← before.kept.same_files) (step.item tells) in
     record {
       small = omega (arith, step.size);
       place = λ tells. ap length (end.written tells) ∙ length-append (g.V.Volume.reads c.loop-frame.volume PICTURE) item ∙ omega (arith, before.place tells);
@@ -48,13 +47,11 @@ loop-frame-preserved g c =
           (g.V.Volume.reads c.loop-frame.volume PICTURE) (g.V.Volume.reads c.append.new.volume PICTURE) item
           (g.S.Source.taken c.args.source.now) taken now
           (before.copied tells) (took tells) end.written;
-      put = counted_next (g.V.Volume.put c.args.volume.now PICTURE) c.loop-frame.place (length item) held (g.V.Volume.put c.loop-frame.volume PICTURE) (g.V.Volume.put c.append.new.volume PICTURE) end.count_put size before.put;
-      other_put = λ file other. end.other_put file other ∙ before.other_put file other;
-      other_reads = λ file other. end.other_reads file other ∙ before.other_reads file other;
-      files = step.same_files ∙ before.files;
-      faults = omega (arith, before.faults, step.faults_kept);
-      volume_faults = omega (arith, before.volume_faults, end.faults_kept);
-      absent = omega (arith, before.absent, step.absent_kept);
+      put = counted_next (g.V.Volume.put c.args.volume.now PICTURE) c.loop-frame.place (length item) held (g.V.Volume.put c.loop-frame.volume PICTURE) (g.V.Volume.put c.append.new.volume PICTURE) end.put size before.put;
+      source_untroubled = step.untroubled ∙ before.source_untroubled;
+      volume_untroubled = end.faults ∙ before.volume_untroubled;
+      kept = source_kept_on g.S.Source.file g.S.Source.absent g.S.Source.taken g.S.Source.faults c.args.source.now c.loop-frame.source c.take_item.new.source before.kept step.kept;
+      beside = beside_kept_on PICTURE g.V.Volume.reads g.V.Volume.put g.V.Volume.faults c.args.volume.now c.loop-frame.volume c.append.new.volume before.beside end.beside;
     }
 
 pub returns-clause-copied : goal.returns-clause-copied

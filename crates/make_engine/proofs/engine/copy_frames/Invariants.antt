@@ -1,6 +1,6 @@
-use Rattle.std.proofs.Common.{◌≡◌, ◌≢◌, ◌≤◌, ◌<◌, ◌*◌, ◌-◌, length, take}
+use Rattle.std.proofs.Common.{◌≡◌, ◌≤◌, ◌<◌, ◌*◌, ◌-◌, length, take}
+use Rattle.mast_world.specs.Changes.{IsSameBeside, IsSameSource}
 use Rattle.mast_world.specs.Count.{counted}
-use Rattle.mast_world.specs.declared.volume.FileId.{FileId}
 use Rattle.make_engine.specs.Engine.{HasCopied, IsItemAt}
 use Rattle.make_engine.specs.declared.engine.TheConstants.{PICTURE}
 use Rattle.make_engine.specs.declared.item.TheConstants.{ROOM}
@@ -19,10 +19,8 @@ invariant-loop-frame g l =
       held : source.tells → 0 < l.frame → IsItemAt (source.file l.fn.source) project (l.frame - 1) (take l.held l.room);
       copied : source.tells → HasCopied volume.tells (source.file l.fn.source) project l.frame (volume.reads l.volume PICTURE) (source.taken l.fn.source) (source.taken l.source);
       put : volume.put l.volume PICTURE ≡ counted (volume.put l.fn.volume PICTURE) l.place;
-      other_put : (file : FileId) → file ≢ PICTURE → volume.put l.volume file ≡ volume.put l.fn.volume file;
-      other_reads : (file : FileId) → file ≢ PICTURE → volume.reads l.volume file ≡ volume.reads l.fn.volume file;
-      files : source.file l.source ≡ source.file l.fn.source;
-      faults : source.faults l.fn.source ≤ source.faults l.source;
-      volume_faults : volume.faults l.fn.volume ≤ volume.faults l.volume;
-      absent : source.absent l.fn.source ≤ source.absent l.source;
+      source_untroubled : source.faults l.source ≡ source.faults l.fn.source;
+      volume_untroubled : volume.faults l.volume ≡ volume.faults l.fn.volume;
+      kept : IsSameSource source.file source.absent source.taken source.faults l.fn.source l.source;
+      beside : IsSameBeside PICTURE volume.reads volume.put volume.faults l.fn.volume l.volume;
     }

@@ -2,7 +2,9 @@ use Rattle.std.proofs.Common.{◌∙◌, ap, arith, take, get_or}
 use Rattle.std.proofs.lemmas.Result.{IfOk-weaker}
 use Rattle.film_timeline.specs.declared.cell.Cell.TheVariants.{Black}
 use Rattle.make_engine.specs.Engine.{IsInFile, ReadsItem, TakesItem}
-use Rattle.make_engine.proofs.Frames.{bad_frame, cell_there, limit_small, missing_frame, not_built, shows_file, takes_again, takes_fresh}
+use Rattle.make_engine.specs.Causes.{IsFileCause, IsFrameCause}
+use Rattle.make_engine.proofs.Frames.{cell_there, limit_small, not_built, of_file, shows_file, takes_again, takes_fresh}
+use Rattle.make_engine.proofs.Outcomes.{err_where}
 use Rattle.make_engine.proofs.frame.take_item.Goals as goal
 
 pub is_repeat-requires : goal.is_repeat-requires
@@ -16,13 +18,6 @@ returns-then-is_repeat-clause-item g c = λ tells.
 
 pub bounds-cells-frame : goal.bounds-cells-frame
 bounds-cells-frame g c = cell_there c.args.plan.now.project _ c.args.frame (c.as_slice-cells.ensures ∙ c.args.plan.now.cells_are) c.requires.frame
-
-pub returns-in_default-clause-unbuilt : goal.returns-in_default-clause-unbuilt
-returns-in_default-clause-unbuilt g c = λ _.
-    let project = c.args.plan.now.project in
-    let are = c.as_slice-cells.ensures ∙ c.args.plan.now.cells_are in
-    not_built project c.as_slice-cells.result.now c.args.frame are (cell_there project _ c.args.frame are c.requires.frame)
-    (rw c.in_default.is at c.in_ok-name.ensures.none)
 
 pub read_codestream-requires-clause-limit : goal.read_codestream-requires-clause-limit
 read_codestream-requires-clause-limit g c =
@@ -51,30 +46,31 @@ returns-clause-item g c = λ tells.
     (ap (λ limits. limits.frame) c.args.plan.now.limits_are) file)
     (c.read_codestream.ensures.read tells)
 
-pub returns-clause-missing : goal.returns-clause-missing
-returns-clause-missing g c = λ name was.
+-- every cell of what is built shows a file
+pub unreachable-requires : goal.unreachable-requires
+unreachable-requires g c =
     let project = c.args.plan.now.project in
-    let cells = c.as_slice-cells.result.now in
     let are = c.as_slice-cells.ensures ∙ c.args.plan.now.cells_are in
-    let here = c.as_slice.result.now in
-    let files = g.S.Source.file c.args.source.now in
-    let file : IsInFile project (get_or cells c.args.frame Black) here = rw c.as_slice.ensures (rw c.in-Some.is at c.in_ok-name.ensures.file) in
-    missing_frame g.S.Source.tells files project c.args.frame here name
-    (shows_file g.S.Source.tells files project cells c.args.frame here c.is_repeat.result are
-    (cell_there project cells c.args.frame are c.requires.frame) c.is_repeat.ensures c.if-is_repeat.false file c.requires.earlier)
-    (c.read_codestream.ensures.missing_name name was) (c.read_codestream.ensures.missing_told name was)
+    let off = not_built project c.as_slice-cells.result.now c.args.frame are (cell_there project _ c.args.frame are c.requires.frame)
+    (rw c.in_default.is at c.in_ok-name.ensures.none) in
+    cc (off, c.requires.built)
 
-pub returns-clause-bad : goal.returns-clause-bad
-returns-clause-bad g c = λ f why was.
+pub returns-clause-ended : goal.returns-clause-ended
+returns-clause-ended g c =
+    let source = g.S.Source in
     let project = c.args.plan.now.project in
     let cells = c.as_slice-cells.result.now in
     let are = c.as_slice-cells.ensures ∙ c.args.plan.now.cells_are in
     let here = c.as_slice.result.now in
-    let files = g.S.Source.file c.args.source.now in
+    let files = source.file c.args.source.now in
     let most = c.args.plan.now.limits.frame in
+    let now = c.read_codestream.new.source in
     let file : IsInFile project (get_or cells c.args.frame Black) here = rw c.as_slice.ensures (rw c.in-Some.is at c.in_ok-name.ensures.file) in
-    bad_frame g.S.Source.tells files project c.args.frame f most why here
-    (shows_file g.S.Source.tells files project cells c.args.frame here c.is_repeat.result are
-    (cell_there project cells c.args.frame are c.requires.frame) c.is_repeat.ensures c.if-is_repeat.false file c.requires.earlier)
-    (ap (λ limits. limits.frame) c.args.plan.now.limits_are)
-    (c.read_codestream.ensures.bad f why was)
+    let shows = shows_file source.tells files project cells c.args.frame here c.is_repeat.result are
+    (cell_there project cells c.args.frame are c.requires.frame) c.is_repeat.ensures c.if-is_repeat.false file c.requires.earlier in
+    err_where c.read_codestream.result
+    (IsFileCause source.tells files here most c.args.frame source.absent source.faults c.args.source.now now)
+    (IsFrameCause source.tells files project source.absent source.faults c.args.source.now now)
+    (λ end. of_file source.tells files project c.args.frame most here source.absent source.faults c.args.source.now now end shows
+    (ap (λ limits. limits.frame) c.args.plan.now.limits_are))
+    c.read_codestream.ensures.ended

@@ -44,14 +44,11 @@ returns-in-Ok-clause-cause g c =
     ∙ ppm-good file c.args.width.now c.args.height.now c.read.new.into size c.in-Some.have c.in-Ok.at there first c.in-Ok.ensures.end) in
     let count = rw c.in-Some.is at c.in_ok-have.ensures.count_absent in
     IfErr-from c.read_pixels.result
-    (IsCause g.S.Source.tells later (g.S.Source.absent c.read.new.self) (g.S.Source.absent c.read_pixels.new.source)
-    (g.S.Source.faults c.read.new.self) (g.S.Source.faults c.read_pixels.new.source))
-    (IsCause g.S.Source.tells shown (g.S.Source.absent c.args.source.now) (g.S.Source.absent c.read_pixels.new.source)
-    (g.S.Source.faults c.args.source.now) (g.S.Source.faults c.read_pixels.new.source))
-    (λ why. cause-earlier g.S.Source.tells later shown (g.S.Source.absent c.args.source.now) (g.S.Source.absent c.read.new.self)
-    (g.S.Source.absent c.read_pixels.new.source) (g.S.Source.faults c.args.source.now) (g.S.Source.faults c.read.new.self)
-    (g.S.Source.faults c.read_pixels.new.source) why here (omega (arith, count, c.read.ensures.same_absent))
-    (omega (arith, c.find.ensures.faults_kept, c.read.ensures.faults_kept)))
+    (IsCause g.S.Source.tells later g.S.Source.absent g.S.Source.faults c.read.new.self c.read_pixels.new.source)
+    (IsCause g.S.Source.tells shown g.S.Source.absent g.S.Source.faults c.args.source.now c.read_pixels.new.source)
+    (λ why. cause-earlier g.S.Source.tells later shown g.S.Source.absent g.S.Source.faults c.args.source.now c.read.new.self
+    c.read_pixels.new.source why here (omega (arith, count, c.read.ensures.same_absent))
+    (omega (arith, c.in_ok-have.ensures.faults, c.in_ok-read.ensures.faults)))
     c.read_pixels.ensures.cause
 
 pub returns-in-Err-clause-cause : goal.returns-in-Err-clause-cause

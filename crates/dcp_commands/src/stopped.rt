@@ -1,0 +1,46 @@
+use film_inputs::PlanEnd;
+use make_engine::MakeEnd;
+use mast_base::NoMemory;
+
+/// Why a command has nothing to print but its status.
+#[derive(Debug, Drop)]
+pub(crate) enum Stopped {
+    /// The words are no accepted command.
+    Usage,
+    Plan(PlanEnd),
+    Make(MakeEnd),
+    NoMemory,
+}
+
+impl From<PlanEnd> for Stopped {
+    ghost use Rattle.std.specs.Prelude.{◌≡◌};
+    ghost use Rattle.dcp_commands.specs.declared.stopped.Stopped.TheVariants.{Plan};
+
+    ghost from_gives = { λ end stopped. stopped ≡ Plan end };
+
+    fn from(end: PlanEnd) -> Self {
+        Stopped::Plan(end)
+    }
+}
+
+impl From<MakeEnd> for Stopped {
+    ghost use Rattle.std.specs.Prelude.{◌≡◌};
+    ghost use Rattle.dcp_commands.specs.declared.stopped.Stopped.TheVariants.{Make};
+
+    ghost from_gives = { λ end stopped. stopped ≡ Make end };
+
+    fn from(end: MakeEnd) -> Self {
+        Stopped::Make(end)
+    }
+}
+
+impl From<NoMemory> for Stopped {
+    ghost use Rattle.std.specs.Prelude.{◌≡◌};
+    ghost use Rattle.dcp_commands.specs.declared.stopped.Stopped.TheVariants as stopped;
+
+    ghost from_gives = { λ _ made. made ≡ stopped.NoMemory };
+
+    fn from(_error: NoMemory) -> Self {
+        Stopped::NoMemory
+    }
+}
