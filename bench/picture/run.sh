@@ -33,3 +33,4 @@ compare() {
 compare quantiser codec_terms quantiser
 compare colour mast_base xyz_convert
 compare wave dwt97
+compare whole mast_base codec_terms xyz_convert picture_planes picture_bands

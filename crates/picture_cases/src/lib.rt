@@ -8,4 +8,6 @@ mod colour;
 #[cfg(test)]
 mod inputs;
 #[cfg(test)]
+mod pictures;
+#[cfg(test)]
 mod wave;
