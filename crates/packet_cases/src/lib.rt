@@ -2,6 +2,12 @@
 #![tactic(auto)]
 
 #[cfg(test)]
+mod drawn;
+#[cfg(test)]
 mod packets;
+#[cfg(test)]
+mod readings;
+#[cfg(test)]
+mod sizes;
 #[cfg(test)]
 mod trees;

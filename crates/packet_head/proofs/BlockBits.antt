@@ -1,13 +1,16 @@
 -- The bits of block after block.
-use Rattle.std.proofs.Common.{◌≡◌, ℕ, suc, ◌+◌, ◌<◌, ◌≤◌, refl, sym, ap, ◌∙◌, arith, Bool, List, [], ◌∷◌, ◌++◌, length, drop, get_or, append_assoc, append-nil}
-use Rattle.std.specs.Prelude.{true, false}
-use Rattle.std.specs.List.{list_any}
+use Rattle.std.proofs.Common.{◌≡◌, ℕ, suc, ◌+◌, ◌<◌, ◌≤◌, refl, sym, ap, ◌∙◌, arith, Bool, List, ◌∷◌, ◌++◌, length, drop, get_or, append_assoc, append-nil}
+use Rattle.std.specs.Prelude.{Ok}
 use Rattle.std.proofs.Math.Seq.{drop-cons}
 use Rattle.std.proofs.lemmas.List.{drop_all}
 use Rattle.codec_terms.specs.declared.packet.PacketBlock.{PacketBlock}
 use Rattle.codec_terms.specs.declared.packet.PacketBand.{PacketBand}
+use Rattle.codec_terms.specs.declared.packet.BandShape.{BandShape}
 use Rattle.codec_terms.specs.TagTree.{Tree, leaf_told}
-use Rattle.codec_terms.specs.PacketHeader.{blocks_bits, has_included, full_packet, packet}
+use Rattle.codec_terms.specs.PacketHeader.{blocks_bits, packet}
+use Rattle.codec_terms.specs.PacketReading.{packet_read}
+use Rattle.packet_laws.specs.ReadBack.{AreInOrder, packet_read_of}
+use Rattle.packet_laws.proofs.PacketsReadBack.{packet_read-is}
 use Rattle.packet_head.specs.Writing.{block_bits, planes_then}
 
 blocks_bits-more : (layers planes : Tree) (at : ℕ) (block : PacketBlock) (blocks : List PacketBlock) → blocks_bits layers planes at (block ∷ blocks)
@@ -35,10 +38,8 @@ all-blocks layers planes at blocks out all past before =
 
 -- ---- whole packets
 
-pub packet-empty : (bands : List PacketBand) → list_any has_included bands ≡ false → 0 ∷ [] ≡ packet bands
-unfolding packet
-packet-empty bands e = rw e refl
-
-pub packet-full : (bands : List PacketBand) → list_any has_included bands ≡ true → full_packet bands ≡ packet bands
-unfolding packet
-packet-full bands e = rw e refl
+pub written-read : (bytes : List ℕ) (bands : List PacketBand) → bytes ≡ packet bands → (shapes : List BandShape) (front rest : List ℕ) → AreInOrder shapes bands
+    → packet_read (front ++ bytes ++ rest) (length front) shapes ≡ Ok (packet_read_of bands (length front + length bytes))
+written-read bytes bands is shapes front rest order =
+    packet_read-is (front ++ bytes ++ rest) front rest shapes bands order (ap (λ xs. front ++ xs ++ rest) is)
+    ∙ ap (λ xs. Ok (packet_read_of bands (length front + length xs))) (sym is)

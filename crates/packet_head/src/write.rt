@@ -1,7 +1,10 @@
-ghost use Rattle.std.specs.Prelude.{◌≡◌, ◌<◌, ◌++◌, ◌∷◌, true, All, IfOk, OnOk, map};
+ghost use Rattle.std.specs.Prelude.{◌≡◌, ◌<◌, ◌+◌, ◌++◌, ◌∷◌, ℕ, List, true, All, IfOk, OnOk, Ok, length, map};
 ghost use Rattle.std.specs.List.{flat_map, list_any};
+ghost use Rattle.codec_terms.specs.declared.packet.BandShape.{BandShape};
 ghost use Rattle.codec_terms.specs.TagTree.{leaf_told};
 ghost use Rattle.codec_terms.specs.PacketHeader.{first_layer, missing_planes, band_bits, block_codeword, band_codewords, has_included, packet};
+ghost use Rattle.codec_terms.specs.PacketReading.{packet_read};
+ghost use Rattle.packet_laws.specs.ReadBack.{AreInOrder, packet_read_of};
 ghost use Rattle.tag_tree.specs.Trees.{leaf_count};
 ghost use Rattle.packet_head.specs.Writing.{HasPassCode, IsBand, block_bits, planes_then};
 
@@ -148,7 +151,11 @@ fn is_full(bands: &[PacketBand]) -> bool
 /// as columns times rows, and each block that is included 1 to 164 passes.
 pub fn write_packet(alloc: Global, bands: &[PacketBand]) -> Result<Bytes, NoMemory>
     requires { All IsBand bands.now }
-    ensures { IfOk result (λ bytes. bytes ≡ packet bands.now) }
+    ensures packet { IfOk result (λ bytes. bytes ≡ packet bands.now) }
+    // A reader that expects these sub-bands gives them back, wherever the packet stands.
+    ensures read_back { IfOk result (λ bytes. (shapes : List BandShape) (front rest : List ℕ) → AreInOrder shapes bands.now
+        → packet_read (front ++ bytes ++ rest) (length front) shapes
+        ≡ Ok (packet_read_of bands.now (length front + length bytes))) }
 {
     if !is_full(bands) {
         let mut bytes = Bytes::new(alloc);

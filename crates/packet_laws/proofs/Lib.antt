@@ -1,2 +1,4 @@
 mod HeadersReadBack
 mod CodewordsReadBack
+pub mod PacketsReadBack
+mod PicturePackets

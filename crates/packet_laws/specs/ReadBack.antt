@@ -3,6 +3,7 @@ use Rattle.std.specs.Prelude.{◌≡◌, ◌<◌, ◌≤◌, ℕ, ◌+◌, ◌*�
 use Rattle.codec_terms.specs.declared.packet.PacketBlock.{PacketBlock}
 use Rattle.codec_terms.specs.declared.packet.PacketBand.{PacketBand}
 use Rattle.codec_terms.specs.declared.packet.BandShape.{BandShape}
+use Rattle.codec_terms.specs.declared.packet.PacketRead.{PacketRead}
 use Rattle.codec_terms.specs.Passes.{pass_count}
 use Rattle.codec_terms.specs.TagTree.{Tree, new_node}
 use Rattle.codec_terms.specs.PacketReading.{BlockHead, no_head, no_block}
@@ -42,6 +43,16 @@ band_heads band = map head_of band.blocks
 -- a block as a reader gives it
 abbrev pub read_of : PacketBlock → PacketBlock
 read_of block = if block.included then block else no_block
+
+abbrev pub band_read_of : PacketBand → PacketBand
+band_read_of band = record { columns = band.columns; rows = band.rows; blocks = map read_of band.blocks }
+
+abbrev pub bands_read_of : List PacketBand → List PacketBand
+bands_read_of bands = map band_read_of bands
+
+-- a packet of these sub-bands as a reader gives it, with the place behind it
+abbrev pub packet_read_of : List PacketBand → ℕ → PacketRead
+packet_read_of bands next = record { bands = bands_read_of bands; next = next }
 
 -- as many sub-bands as shapes, each in order
 abbrev pub AreInOrder : List BandShape → List PacketBand → Type 0

@@ -1,18 +1,27 @@
-//! Reading gives back what a written packet's header tells, and the codewords of a sub-band, over the standard's
-//! definitions alone (ITU-T T.800, Annex B.9 and B.10, with one layer). The laws name no code.
+//! Reading gives back what a written packet's header tells, the codewords of a sub-band, the whole packet, and the
+//! packets of a picture's component, over the standard's definitions alone (ITU-T T.800, Annex B.9 and B.10, with one
+//! layer). The laws name no code.
 #![tactic(auto)]
 
-ghost use Rattle.std.specs.Prelude.{◌≡◌, ◌≤◌, ◌+◌, ◌*◌, ◌<◌, ℕ, Bool, true, List, ◌∷◌, ◌++◌, All, length, map, Some, Ok};
+ghost use Rattle.std.specs.Prelude.{◌≡◌, ◌≤◌, ◌+◌, ◌*◌, ◌<◌, ◌^◌, ℕ, ℤ, Bool, true, List, ◌∷◌, ◌++◌, All, length, map, Some, Ok};
 ghost use Rattle.std.specs.List.{range_with_len, flat_map};
 ghost use Rattle.codec_terms.specs.declared.packet.PacketBlock.{PacketBlock};
 ghost use Rattle.codec_terms.specs.declared.packet.PacketBand.{PacketBand};
 ghost use Rattle.codec_terms.specs.declared.packet.BandShape.{BandShape};
+ghost use Rattle.codec_terms.specs.declared.picture.Shape.{Shape};
+ghost use Rattle.codec_terms.specs.declared.reading.MainHead.{MainHead};
+ghost use Rattle.codec_terms.specs.Bands.{plane_limit, component_bands};
+ghost use Rattle.codec_terms.specs.Codestream.{component_packets, part_length};
 ghost use Rattle.codec_terms.specs.TagTree.{Tree, FoundTree, leaf_value};
-ghost use Rattle.codec_terms.specs.PacketHeader.{pass_bits, length_bits, first_layer, missing_planes, blocks_bits, band_bits, block_codeword};
-ghost use Rattle.codec_terms.specs.PacketReading.{BitPlace, included_read, blocks_read, band_read, bands_read, codewords_read};
+ghost use Rattle.codec_terms.specs.Precincts.{Precinct, packet_order};
+ghost use Rattle.codec_terms.specs.StreamReading.{precinct_shapes, packets_read};
+ghost use Rattle.codec_terms.specs.PacketHeader.{pass_bits, length_bits, first_layer, missing_planes, blocks_bits, band_bits, block_codeword, packet};
+ghost use Rattle.codec_terms.specs.PacketReading.{BitPlace, included_read, blocks_read, band_read, bands_read, codewords_read, packet_read};
 ghost use Rattle.codec_laws.specs.BitsAhead.{IsAhead, Gives};
+ghost use Rattle.codec_laws.specs.Bounds.{FitBands};
+ghost use Rattle.codec_laws.specs.Places.{packets_of};
 ghost use Rattle.codec_laws.specs.TreeReading.{AreSameTrees};
-ghost use Rattle.packet_laws.specs.ReadBack.{AreInOrder, band_heads, IsReadable, HasNewLeaves, IsInOrder, head_of, read_of};
+ghost use Rattle.packet_laws.specs.ReadBack.{AreInOrder, band_heads, IsReadable, HasNewLeaves, IsInOrder, head_of, read_of, bands_read_of, packet_read_of};
 
 /// What a packet's header says is read back: of a block that is included, of blocks in raster order with the trees kept
 /// in step, of a sub-band, and of all sub-bands.
@@ -42,4 +51,29 @@ pub fn packet_codeword_laws()
         → bytes ≡ front ++ (flat_map block_codeword blocks ++ rest)
         → codewords_read bytes (map head_of blocks) (length front)
         ≡ Ok (map read_of blocks, length front + length (flat_map block_codeword blocks)) }
+{}
+
+/// A packet is read back, wherever it stands: each sub-band with its blocks as a reader gives them, and the place behind
+/// the packet. So are packets behind one another, one for each precinct.
+pub fn packet_laws()
+    ensures one { (bytes front rest : List ℕ) (shapes : List BandShape) (bands : List PacketBand)
+        → AreInOrder shapes bands → bytes ≡ front ++ packet bands ++ rest
+        → packet_read bytes (length front) shapes ≡ Ok (packet_read_of bands (length front + length (packet bands))) }
+    ensures each { (bytes front rest : List ℕ) (head : MainHead) (component : ℕ) (precincts : List Precinct)
+        (bands : Precinct → List PacketBand)
+        → All (λ p. AreInOrder (precinct_shapes head component p) (bands p)) precincts
+        → bytes ≡ front ++ flat_map (λ p. packet (bands p)) precincts ++ rest
+        → packets_read bytes head component precincts (length front)
+        ≡ Ok (map (λ p. bands_read_of (bands p)) precincts, length front + length (flat_map (λ p. packet (bands p)) precincts)) }
+{}
+
+/// By its main header a picture's packets of a component are read back, each exactly as it was written, where the
+/// coefficients fit their sub-bands' bit-planes and the tile-part's length its field.
+pub fn picture_packet_laws()
+    ensures { (bytes front rest : List ℕ) (shape : Shape) (q : List ℤ) (cut component : ℕ) (head : MainHead)
+        → component < 3 → FitBands shape q → part_length shape q cut component < 2 ^ 32
+        → head.shape ≡ shape → head.mb ≡ map plane_limit (component_bands 0)
+        → bytes ≡ front ++ component_packets shape q cut component ++ rest
+        → packets_read bytes head component (packet_order shape) (length front)
+        ≡ Ok (packets_of shape q cut component, length front + length (component_packets shape q cut component)) }
 {}

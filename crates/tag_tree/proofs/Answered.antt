@@ -1,14 +1,18 @@
 -- A reader that is asked the same list as a writer takes its bits, and knows what they state.
-use Rattle.std.proofs.Common.{◌≡◌, ◌≢◌, ℕ, ◌*◌, refl, sym, ap, ap₂, subst, ◌∙◌, Bool, true, false, List, [], ◌∷◌, ◌++◌, length, append_assoc, inl, inr, All, Some, None}
-use Rattle.std.specs.Prelude.{◌||◌, if◌then◌else◌, nat_lt, slice_index}
-use Rattle.std.specs.List.{list_any}
+use Rattle.std.proofs.Common.{◌≡◌, ◌≢◌, ℕ, ◌*◌, ◌<◌, refl, sym, ap, ap₂, subst, ◌∙◌, Bool, true, false, List, [], ◌∷◌, ◌++◌, length, get_or, append_assoc, arith, inl, inr, All, Some, None}
+use Rattle.std.specs.Prelude.{◌||◌, if◌then◌else◌, nat_lt, map, slice_index}
+use Rattle.std.specs.List.{list_any, range_with_len}
 use Rattle.std.proofs.lemmas.Bool.{cases_eq, eq-eqb, ne_eqb}
-use Rattle.std.proofs.lemmas.List.Elements.{All-head, All-tail}
-use Rattle.codec_terms.specs.TagTree.{Tree, Node, FoundTree, new_tree, blank_tree, leaf_bits, leaf_told, leaf_value}
+use Rattle.std.proofs.Math.Bool.{and-false}
+use Rattle.std.proofs.lemmas.List.Elements.{All-head, All-tail, All-map}
+use Rattle.std.proofs.lemmas.List.Folds.{list_any_at, list_any_none}
+use Rattle.std.proofs.lemmas.List.FromFn.{get_or-map-range_with_len, length-map-range_with_len}
+use Rattle.codec_terms.specs.TagTree.{Tree, Node, FoundTree, new_tree, blank_tree, leaf_bits, leaf_told, leaves_bits, leaf_value}
 use Rattle.codec_laws.specs.TreeReading.{AreSameTrees, HasLeaf, leaf_of}
+use Rattle.codec_laws.proofs.Lists.{All-from_range}
 use Rattle.codec_laws.proofs.TagTrees.{HasLeaf-leaf_told, leaf_of-leaf_told, leaf_of-other, leaf_value-is}
 use Rattle.codec_laws.proofs.TreeLevels.{AreSameTrees-new, HasLeaf-new, leaf_of-new}
-use Rattle.tag_tree.specs.Asking.{Question, asked_bits, leaf_taken, all_taken, tells, AreReadBack, AreLeaves}
+use Rattle.tag_tree.specs.Asking.{Question, asked_bits, leaf_taken, all_taken, tells, stated, asked_for, each_leaf, value_below, AreReadBack, AreLeaves}
 use Rattle.tag_tree.proofs.ReadBack.{leaf_taken-is}
 
 record AreTaken (tree : Tree) (found : FoundTree) (qs : List Question) : Type 0 where
@@ -83,12 +87,12 @@ are_taken tree found (q ∷ qs) same leaves =
     ]
 
 pub are_read_back : (columns rows : ℕ) (values : List ℕ) (tree : Tree) (qs : List Question) → length values ≡ rows * columns → tree ≡ new_tree columns rows values
-    → AreLeaves (rows * columns) qs → AreReadBack columns rows values tree qs
+    → AreLeaves (rows * columns) qs → AreReadBack columns rows qs (asked_bits tree qs) (stated values qs)
 are_read_back columns rows values tree qs whole is leaves =
-    subst (λ tree. AreReadBack columns rows values tree qs) (sym is) (of_new (are_taken (new_tree columns rows values) (blank_tree columns rows) qs (AreSameTrees-new columns rows values whole)
+    subst (λ tree. AreReadBack columns rows qs (asked_bits tree qs) (stated values qs)) (sym is) (of_new (are_taken (new_tree columns rows values) (blank_tree columns rows) qs (AreSameTrees-new columns rows values whole)
     (λ k d inside. HasLeaf-new columns rows values _ whole (leaves k d inside))))
   where
-    of_new : AreTaken (new_tree columns rows values) (blank_tree columns rows) qs → AreReadBack columns rows values (new_tree columns rows values) qs
+    of_new : AreTaken (new_tree columns rows values) (blank_tree columns rows) qs → AreReadBack columns rows qs (asked_bits (new_tree columns rows values) qs) (stated values qs)
     of_new taken = record {
       rest = λ bits. ap (λ (r : FoundTree × List Bool). r.1) (taken.is bits);
       leaves = λ bits at inside.
@@ -100,4 +104,38 @@ are_read_back columns rows values tree qs whole is leaves =
           ap (λ (r : FoundTree × List Bool). leaf_value r.0 at) (taken.is bits)
           ∙ leaf_value-is at taken.told taken.after taken.same (taken.leaf at leaf)
           ∙ ap₂ (λ v k. if k then Some v else None) value known;
+    }
+
+-- ---- each leaf in raster order, for one threshold
+
+asked_bits-leaves : (t : ℕ) (tree : Tree) (leaves : List ℕ) → asked_bits tree (map (asked_for t) leaves) ≡ leaves_bits t tree leaves
+unfolding asked_bits leaves_bits
+asked_bits-leaves t tree [] = refl
+asked_bits-leaves t tree (at ∷ leaves) = ap (λ bits. leaf_bits t tree at ++ bits) (asked_bits-leaves t (leaf_told t tree at) leaves)
+
+-- each leaf is asked, so its value is told where it is below the threshold
+any_tells : (t n at value : ℕ) → at < n → list_any (tells at value) (each_leaf n t) ≡ nat_lt value t
+any_tells t n at value inside = by_value (nat_lt value t) refl
+  where
+    by_value : (b : Bool) → nat_lt value t ≡ b → list_any (tells at value) (each_leaf n t) ≡ b
+    by_value true e =
+        let there : get_or (each_leaf n t) at (asked_for t 0) ≡ asked_for t at = get_or-map-range_with_len (asked_for t) 0 n at at (asked_for t 0) inside (omega arith) in
+        list_any_at (tells at value) (each_leaf n t) at (asked_for t 0) (omega (arith, length-map-range_with_len (asked_for t) 0 n))
+        (ap (tells at value) there ∙ tells-same at value (asked_for t at) refl ∙ e)
+    by_value false e =
+        list_any_none (tells at value) (each_leaf n t) (All-map (λ q. tells at value q ≡ false) (asked_for t) (range_with_len 0 n) (λ k d there. rw (e, and-false) refl))
+
+pub all_read_back : (columns rows t : ℕ) (values : List ℕ) (bits : List Bool) → length values ≡ rows * columns → bits ≡ leaves_bits t (new_tree columns rows values) (range_with_len 0 (rows * columns))
+    → AreReadBack columns rows (each_leaf (rows * columns) t) bits (value_below t values)
+all_read_back columns rows t values bits whole is =
+    let n : ℕ = rows * columns in
+    let tree : Tree = new_tree columns rows values in
+    let asked = are_read_back columns rows values tree (each_leaf n t) whole refl (All-map (λ q. q.at < n) (asked_for t) (range_with_len 0 n) (All-from_range (λ at. at < n) n (λ i inside. inside))) in
+    let same : asked_bits tree (each_leaf n t) ≡ bits = asked_bits-leaves t tree (range_with_len 0 n) ∙ sym is in
+    record {
+      rest = λ more. ap (λ bits. (all_taken (blank_tree columns rows) (each_leaf n t) (bits ++ more)).1) (sym same) ∙ asked.rest more;
+      leaves = λ more at inside.
+          ap (λ bits. leaf_value (all_taken (blank_tree columns rows) (each_leaf n t) (bits ++ more)).0 at) (sym same)
+          ∙ asked.leaves more at inside
+          ∙ ap (λ b. if b then Some (slice_index values at) else None) (any_tells t n at (slice_index values at) inside);
     }

@@ -1,5 +1,5 @@
 -- The levels that are filled are those of the definition's new tree.
-use Rattle.std.proofs.Common.{◌≡◌, ℕ, zero, suc, ◌+◌, ◌-◌, ◌*◌, ◌<◌, ◌≤◌, refl, sym, ap, ap₂, ◌∙◌, arith, Bool, true, false, List, [], ◌∷◌, ◌++◌, length, map, append_assoc, subst}
+use Rattle.std.proofs.Common.{◌≡◌, ℕ, zero, suc, ◌+◌, ◌-◌, ◌*◌, ◌<◌, ◌≤◌, refl, sym, ap, ap₂, ◌∙◌, arith, Bool, true, false, List, [], ◌∷◌, ◌++◌, length, map, take, drop, append_assoc, subst}
 use Rattle.std.specs.Prelude.{if◌then◌else◌}
 use Rattle.std.specs.Int.{div_ceil}
 use Rattle.std.specs.List.{range_with_len}
@@ -11,7 +11,7 @@ use Rattle.tag_tree.specs.Sizes as sizes
 use Rattle.tag_tree.specs.Sizes.{IsSized, IsTower, IsWhole, height, level_count}
 use Rattle.tag_tree.specs.Trees.{leaf_rows}
 use Rattle.tag_tree.proofs.Parents.{IsSized-grid_of, IsSized-ancestors, IsSized-nodes, nodes}
-use Rattle.tag_tree.proofs.Shapes.{leaf_rows-tower}
+use Rattle.tag_tree.proofs.Shapes.{leaf_rows-tower, written_back}
 
 ancestors-parents : (m : ℕ) (grid : List (List ℕ)) → ancestors m (parents grid) ≡ parents (ancestors m grid)
 unfolding ancestors
@@ -115,6 +115,26 @@ pub new_tree-rows : (columns rows : ℕ) (values : List ℕ) (levels : List (Lis
 unfolding new_tree
 new_tree-rows columns rows values [] w = rw (no_leaves columns rows (sym w.count), empty_rows columns) refl
 new_tree-rows columns rows values (level ∷ levels) w = ap (λ r. new_tree columns r values) (sym (leaf_rows-tower columns rows (level ∷ levels) (omega arith) w.tower))
+
+-- ---- a vector's levels that were filled through a slice
+
+pub record IsFilled (columns rows : ℕ) (values : List ℕ) (levels : List (List (List Node))) : Type 0 where
+  pub whole : IsWhole columns rows levels
+  pub tree : record { columns = columns; levels = levels } ≡ new_tree columns rows values
+  pub leaves : leaf_rows levels * columns ≡ rows * columns
+
+pub filled-is : (columns rows len : ℕ) (values : List ℕ) (levels given new : List (List (List Node))) → length values ≡ rows * columns → IsWhole columns rows levels → len ≡ length levels
+    → given ≡ levels → new ≡ raised_nodes (length given) (grid_of columns rows values) → IsFilled columns rows values (take len (new ++ drop (length new) levels))
+filled-is columns rows len values levels given new whole w count same is =
+    let grid : List (List ℕ) = grid_of columns rows values in
+    let filled : new ≡ raised_nodes (length levels) grid = is ∙ ap (λ levels. raised_nodes (length levels) grid) same in
+    let size : length new ≡ len = length-filled (length levels) grid new filled ∙ sym count in
+    let v : IsWhole columns rows new = IsWhole-filled columns rows (length levels) values new whole w.count w.few filled in
+    subst (λ levels. IsFilled columns rows values levels) (sym (written_back len new levels size)) (record {
+      whole = v;
+      tree = new_tree-is columns rows (length levels) values new w.count filled;
+      leaves = whole-leaves columns rows (leaf_rows new * columns) new v refl;
+    })
 
 -- ---- the bits of leaf after leaf
 

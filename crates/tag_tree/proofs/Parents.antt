@@ -9,7 +9,8 @@ use Rattle.codec_terms.specs.TagTree.{Node, no_node, new_node, pairs_joined, lea
 use Rattle.tag_tree.specs.Children.{wide, least_child, IsHalf, ancestors, raised, raised_nodes}
 use Rattle.tag_tree.specs.Sizes as sizes
 use Rattle.tag_tree.specs.Sizes.{IsSized, IsTower}
-use Rattle.tag_tree.proofs.Grids.{rows-of}
+use Rattle.codec_laws.specs.TreeReading.{IsInside}
+use Rattle.tag_tree.proofs.Grids.{rows-of, IsPlaced, inside-placed, place-below}
 
 -- ---- sizes
 
@@ -20,6 +21,24 @@ pub IsSized-grid_of : {A : Type 0} (columns rows : ℕ) (items : List A) → len
 IsSized-grid_of columns rows items whole =
     let g = rows-of columns rows items whole in
     record { size = g.size; each = λ k d inside. (g.each k d inside).size }
+
+-- the column and the row of a grid whose rows stand behind one another in these items
+pub record IsSeen {A : Type 0} (columns rows : ℕ) (grid : List (List A)) (x y : ℕ) : Type 0 where
+  pub across : wide grid ≡ columns
+  pub down : length grid ≡ rows
+  pub placed : IsPlaced columns rows x y
+  pub below : y * columns + x < rows * columns
+
+pub inside-seen : {A : Type 0} (columns rows : ℕ) (items : List A) (grid : List (List A)) (x y : ℕ) → length items ≡ rows * columns → grid_of columns rows items ≡ grid → IsInside grid x y → IsSeen columns rows grid x y
+inside-seen columns rows items grid x y whole is inside =
+    let sized = subst (IsSized columns rows) is (IsSized-grid_of columns rows items whole) in
+    let placed = inside-placed columns rows items x y whole (subst (λ grid. IsInside grid x y) (sym is) inside) in
+    record {
+      across = wide-sized columns rows grid sized (omega (arith, placed.row));
+      down = sized.size;
+      placed = placed;
+      below = place-below columns rows x y placed;
+    }
 
 pub grid-ext : {A : Type 0} (d : A) (columns rows : ℕ) (g h : List (List A)) → IsSized columns rows g → IsSized columns rows h
     → ((x y : ℕ) → x < columns → y < rows → grid_item d g x y ≡ grid_item d h x y) → g ≡ h

@@ -152,3 +152,36 @@ pub leaf_rows-kept : {A : Type 0} (columns rows : ℕ) (before after : List (Lis
 leaf_rows-kept columns rows [] [] e s t = refl
 leaf_rows-kept columns rows [] (level ∷ levels) e s t = absurd (omega arith)
 leaf_rows-kept columns rows (level ∷ levels) after e s t = leaf_rows-tower columns rows after (omega arith) t ∙ sym (leaf_rows-tower columns rows (level ∷ levels) (omega arith) s)
+
+-- ---- a vector's levels, of which a slice was changed
+
+-- leaf number `at` of n is there
+pub place-in : {A : Type 0} (columns rows at n : ℕ) (levels : List (List (List A))) → IsWhole columns rows levels → leaf_rows levels * columns ≡ n → at < n → HasPlace (at % columns) (at / columns) levels
+place-in columns rows at n levels w count below = HasPlace-leaf columns rows at levels w.tower (subst (λ n. at < n) (sym count) below)
+
+-- what stands there is whole, with as many rows of leaves as before
+pub record IsKept {A : Type 0} (columns rows : ℕ) (before after : List (List (List A))) : Type 0 where
+  pub whole : IsWhole columns rows after
+  pub leaves : leaf_rows after ≡ leaf_rows before
+
+kept : {A : Type 0} (columns rows len : ℕ) (before new changed : List (List (List A))) → len ≡ length before → length changed ≡ length before → new ≡ changed
+    → IsWhole columns rows before → IsWhole columns rows changed → IsKept columns rows before (take len (new ++ drop (length new) before))
+kept columns rows len before new changed count size is w v =
+    let back : take len (new ++ drop (length new) before) ≡ changed = written_back len new before (ap length is ∙ size ∙ sym count) ∙ is in
+    subst (λ after. IsKept columns rows before after) (sym back) (record { whole = v; leaves = leaf_rows-kept columns rows before changed size w.tower v.tower })
+
+pub told-kept : (columns rows len t at n : ℕ) (levels given new : List (List (List Node))) → IsWhole columns rows levels → leaf_rows levels * columns ≡ n → at < n → len ≡ length levels
+    → given ≡ levels → new ≡ path_told t 0 (at % columns) (at / columns) given → IsKept columns rows levels (take len (new ++ drop (length new) levels))
+told-kept columns rows len t at n levels given new w count below size same is =
+    let x : ℕ = at % columns in
+    let y : ℕ = at / columns in
+    kept columns rows len levels new (path_told t 0 x y levels) size (length-path_told t 0 x y levels) (is ∙ ap (path_told t 0 x y) same) w
+    (IsWhole-path_told columns rows t 0 x y levels (place-in columns rows at n levels w count below) w)
+
+pub pushed-kept : (columns rows len : ℕ) (bit : Bool) (t at n : ℕ) (levels given new : List (List (List Found))) → IsWhole columns rows levels → leaf_rows levels * columns ≡ n → at < n → len ≡ length levels
+    → given ≡ levels → new ≡ path_pushed bit t 0 (at % columns) (at / columns) given → IsKept columns rows levels (take len (new ++ drop (length new) levels))
+pushed-kept columns rows len bit t at n levels given new w count below size same is =
+    let x : ℕ = at % columns in
+    let y : ℕ = at / columns in
+    kept columns rows len levels new (path_pushed bit t 0 x y levels) size (length-path_pushed bit t 0 x y levels) (is ∙ ap (path_pushed bit t 0 x y) same) w
+    (IsWhole-path_pushed columns rows bit t 0 x y levels (place-in columns rows at n levels w count below) w)

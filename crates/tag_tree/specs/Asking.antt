@@ -1,6 +1,6 @@
 -- A writer and a reader that are asked the same list of leaves, each for a threshold.
-use Rattle.std.specs.Prelude.{◌≡◌, ℕ, zero, suc, ◌*◌, ◌<◌, ◌==◌, Bool, true, false, ◌&&◌, if◌then◌else◌, nat_lt, List, [], ◌∷◌, ◌++◌, All, length, slice_index, Option, Some, None}
-use Rattle.std.specs.List.{list_any}
+use Rattle.std.specs.Prelude.{◌≡◌, ℕ, zero, suc, ◌*◌, ◌<◌, ◌==◌, Bool, true, false, ◌&&◌, if◌then◌else◌, nat_lt, List, [], ◌∷◌, ◌++◌, All, length, map, slice_index, Option, Some, None}
+use Rattle.std.specs.List.{list_any, range_with_len}
 use Rattle.codec_terms.specs.TagTree.{Tree, FoundTree, leaf_bits, leaf_told, wants, pushed, leaf_value, blank_tree}
 
 -- a leaf and a threshold
@@ -40,13 +40,22 @@ abbrev pub stated : List ℕ → List Question → ℕ → Option ℕ
 stated values qs at =
     let value = slice_index values at in if list_any (tells at value) qs then Some value else None
 
--- a reader that knows nothing of the tree, asked the same, takes exactly the bits that these values gave, and knows
--- of each leaf what they state
-pub record AreReadBack (columns rows : ℕ) (values : List ℕ) (tree : Tree) (qs : List Question) : Type 0 where
-  pub rest : (bits : List Bool) → (all_taken (blank_tree columns rows) qs (asked_bits tree qs ++ bits)).1 ≡ bits
+-- of each leaf in raster order, for one threshold, and what that states of a leaf
+abbrev pub asked_for : ℕ → ℕ → Question
+asked_for t at = record { at = at; threshold = t }
+
+abbrev pub each_leaf : ℕ → ℕ → List Question
+each_leaf n t = map (asked_for t) (range_with_len 0 n)
+
+abbrev pub value_below : ℕ → List ℕ → ℕ → Option ℕ
+value_below t values at = let value = slice_index values at in if nat_lt value t then Some value else None
+
+-- a reader that knows nothing of the tree, asked so, takes exactly these bits, and knows then this of each leaf
+pub record AreReadBack (columns rows : ℕ) (qs : List Question) (bits : List Bool) (known : ℕ → Option ℕ) : Type 0 where
+  pub rest : (more : List Bool) → (all_taken (blank_tree columns rows) qs (bits ++ more)).1 ≡ more
   pub leaves :
-      (bits : List Bool) (at : ℕ) → at < rows * columns →
-      leaf_value (all_taken (blank_tree columns rows) qs (asked_bits tree qs ++ bits)).0 at ≡ stated values qs at
+      (more : List Bool) (at : ℕ) → at < rows * columns →
+      leaf_value (all_taken (blank_tree columns rows) qs (bits ++ more)).0 at ≡ known at
 
 -- the leaves that are asked are all there
 abbrev pub AreLeaves : ℕ → List Question → Type 0

@@ -1,4 +1,4 @@
-ghost use Rattle.std.specs.Prelude.{◌≡◌, ℕ, ◌*◌, ◌<◌, ◌^◌, IfOk, length, map, replicate};
+ghost use Rattle.std.specs.Prelude.{◌≡◌, ℕ, ◌+◌, ◌*◌, ◌<◌, ◌^◌, IfOk, length, map, replicate};
 ghost use Rattle.codec_terms.specs.Grid.{grid_of, grid_item, with_grid_item};
 ghost use Rattle.codec_terms.specs.TagTree.{new_node, no_node};
 ghost use Rattle.codec_laws.specs.TreeReading.{IsInside};
@@ -66,12 +66,21 @@ impl<T: Copy + Drop> Grid<T> {
         self.rows
     }
 
+    // The place of this column and row among the nodes.
+    fn place(&self, x: usize, y: usize) -> usize
+        requires inside { IsInside self.now x y }
+        ensures place { result ≡ y * wide self.now + x }
+        ensures below { result < length self.now * wide self.now }
+    {
+        y * self.columns + x
+    }
+
     /// The node in this column and row.
     pub(crate) fn get(&self, x: usize, y: usize) -> T
         requires inside { IsInside self.now x y }
         ensures { (outside : T) → result ≡ grid_item outside self.now x y }
     {
-        self.items[y * self.columns + x]
+        self.items[self.place(x, y)]
     }
 
     /// Puts a node in the place of another.
@@ -79,7 +88,8 @@ impl<T: Copy + Drop> Grid<T> {
         requires inside { IsInside self.old x y }
         ensures { self.new ≡ with_grid_item self.old x y item }
     {
-        self.items[y * self.columns + x] = item;
+        let place = self.place(x, y);
+        self.items[place] = item;
     }
 }
 

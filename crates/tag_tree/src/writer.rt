@@ -1,6 +1,7 @@
 ghost use Rattle.std.specs.Prelude.{◌≡◌, ◌*◌, IfOk, length};
 ghost use Rattle.std.specs.List.{range_with_len};
 ghost use Rattle.codec_terms.specs.TagTree.{new_tree, leaves_bits};
+ghost use Rattle.tag_tree.specs.Asking.{each_leaf, value_below, AreReadBack};
 
 use crate::fill::fill;
 use crate::grid::Grid;
@@ -36,7 +37,7 @@ impl TreeWriter {
     ghost use Rattle.std.specs.Prelude.{◌≡◌, ◌<◌, ◌*◌, ◌++◌, IfOk, OnOk, OnErr, List, length};
     ghost use Rattle.codec_terms.specs.TagTree.{new_tree, leaf_bits, leaf_told};
     ghost use Rattle.tag_tree.specs.Trees.{leaf_rows, leaf_count};
-    ghost use Rattle.tag_tree.specs.Asking.{Question, AreLeaves, AreReadBack};
+    ghost use Rattle.tag_tree.specs.Asking.{Question, asked_bits, stated, AreLeaves, AreReadBack};
 
     /// A writer of which no bit was sent, over so many columns and rows of leaves with these values in raster order.
     pub fn new(alloc: Global, columns: u32, rows: u32, values: &[u32]) -> Result<Self, NoMemory>
@@ -44,7 +45,7 @@ impl TreeWriter {
         ensures tree { IfOk result (λ tree. tree ≡ new_tree columns rows values.now) }
         ensures leaves { IfOk result (λ tree. leaf_count tree ≡ rows * columns) }
         ensures read_back { IfOk result (λ tree. (qs : List Question) → AreLeaves (rows * columns) qs
-            → AreReadBack columns rows values.now tree qs) }
+            → AreReadBack columns rows qs (asked_bits tree qs) (stated values.now qs)) }
     {
         let columns = columns as usize;
         let rows = rows as usize;
@@ -120,8 +121,11 @@ pub fn write_tree(
     threshold: u32,
 ) -> Result<List<bool>, NoMemory>
     requires { length values.now ≡ rows * columns }
-    ensures { IfOk result (λ bits. bits ≡ leaves_bits threshold (new_tree columns rows values.now)
+    ensures bits { IfOk result (λ bits. bits ≡ leaves_bits threshold (new_tree columns rows values.now)
         (range_with_len 0 (rows * columns))) }
+    // A reader that is asked the same knows of each leaf its value, where that is below the threshold.
+    ensures read_back { IfOk result (λ bits. AreReadBack columns rows (each_leaf (rows * columns) threshold) bits
+        (value_below threshold values.now)) }
 {
     let mut tree = TreeWriter::new(alloc, columns, rows, values)?;
     let mut bits = List::new(alloc);

@@ -1,41 +1,20 @@
-use Rattle.std.proofs.Common.{◌≡◌, ◌+◌, ◌*◌, ◌<◌, arith, rules, ap, ◌∙◌, length}
-use Rattle.std.specs.Prelude.{◌^◌}
+use Rattle.std.proofs.Common.{◌≡◌, ◌+◌, ◌*◌, ap, ◌∙◌, set}
 use Rattle.codec_terms.specs.Grid.{grid_of, with_grid_item}
-use Rattle.codec_laws.specs.TreeReading.{IsInside}
-use Rattle.tag_tree.proofs.Grids.{inside-placed, place-below, grid_of-set}
+use Rattle.tag_tree.proofs.Grids.{grid_of-set}
+use Rattle.tag_tree.proofs.Parents.{inside-seen}
 use Rattle.tag_tree.proofs.grid.Grid.set.Goals as goal
-
-pub overflow_mul-y : goal.overflow_mul-y
-overflow_mul-y g c =
-    let s = c.self.inside in
-    let inside : IsInside (grid_of s.columns s.rows s.items.items) c.args.x c.args.y = rw c.self.view_is c.requires.inside in
-    let whole : length s.items.items ≡ s.rows * s.columns = c.self.invariant in
-    let below : c.args.y * s.columns + c.args.x < s.rows * s.columns = place-below s.columns s.rows c.args.x c.args.y (inside-placed s.columns s.rows s.items.items c.args.x c.args.y whole inside) in
-    let fits : c.args.y * s.columns < 2 ^ 64 = omega (arith, s.items.ok.0, s.items.ok.1, s.items.small) in
-    search rules
-
-pub overflow_add-y : goal.overflow_add-y
-overflow_add-y g c =
-    let s = c.self.inside in
-    let inside : IsInside (grid_of s.columns s.rows s.items.items) c.args.x c.args.y = rw c.self.view_is c.requires.inside in
-    let whole : length s.items.items ≡ s.rows * s.columns = c.self.invariant in
-    let below : c.args.y * s.columns + c.args.x < s.rows * s.columns = place-below s.columns s.rows c.args.x c.args.y (inside-placed s.columns s.rows s.items.items c.args.x c.args.y whole inside) in
-    let fits : c.args.y * s.columns + c.args.x < 2 ^ 64 = omega (arith, s.items.ok.0, s.items.ok.1, s.items.small) in
-    search rules
 
 pub index_mut-requires : goal.index_mut-requires
 index_mut-requires g c =
     let s = c.self.inside in
-    let inside : IsInside (grid_of s.columns s.rows s.items.items) c.args.x c.args.y = rw c.self.view_is c.requires.inside in
-    let whole : length s.items.items ≡ s.rows * s.columns = c.self.invariant in
-    let below : c.args.y * s.columns + c.args.x < s.rows * s.columns = place-below s.columns s.rows c.args.x c.args.y (inside-placed s.columns s.rows s.items.items c.args.x c.args.y whole inside) in
-    rw (s.items.ok.0, whole) below
+    let seen = inside-seen s.columns s.rows s.items.items c.args.self.now c.args.x c.args.y c.self.invariant c.self.view_is c.requires.inside in
+    rw (c.place-place.ensures.place, seen.across, s.items.ok.0, c.self.invariant) seen.below
 
 pub returns : goal.returns
 returns g c =
     let s = c.self.inside in
-    let inside : IsInside (grid_of s.columns s.rows s.items.items) c.args.x c.args.y = rw c.self.view_is c.requires.inside in
-    let whole : length s.items.items ≡ s.rows * s.columns = c.self.invariant in
-    let placed = inside-placed s.columns s.rows s.items.items c.args.x c.args.y whole inside in
-    grid_of-set s.columns s.rows s.items.items c.args.x c.args.y c.args.item placed
+    let seen = inside-seen s.columns s.rows s.items.items c.args.self.now c.args.x c.args.y c.self.invariant c.self.view_is c.requires.inside in
+    let place : c.place-place.result ≡ c.args.y * s.columns + c.args.x = c.place-place.ensures.place ∙ ap (λ n. c.args.y * n + c.args.x) seen.across in
+    ap (λ n. grid_of s.columns s.rows (set s.items.items n c.args.item)) place
+    ∙ grid_of-set s.columns s.rows s.items.items c.args.x c.args.y c.args.item seen.placed
     ∙ ap (λ grid. with_grid_item grid c.args.x c.args.y c.args.item) c.self.view_is

@@ -1,41 +1,28 @@
-use Rattle.std.proofs.Common.{◌≡◌, ◌<◌, ◌*◌, ◌/◌, ◌%◌, ◌∙◌, subst, sym, ap, length}
-use Rattle.codec_terms.specs.TagTree.{FoundTree, path_pushed}
-use Rattle.tag_tree.specs.Trees.{leaf_rows, found_count}
-use Rattle.tag_tree.specs.Sizes.{HasPlace, IsWhole}
-use Rattle.tag_tree.proofs.Shapes.{HasPlace-leaf, IsWhole-path_pushed, length-path_pushed, leaf_rows-kept, written_back}
+use Rattle.std.proofs.Common.{◌*◌, ◌/◌, ◌%◌, ◌∙◌, subst, sym, ap}
+use Rattle.codec_terms.specs.TagTree.{FoundTree}
+use Rattle.tag_tree.specs.Trees.{found_count}
+use Rattle.tag_tree.specs.Sizes.{HasPlace}
+use Rattle.tag_tree.proofs.Shapes.{place-in, pushed-kept}
 use Rattle.tag_tree.proofs.reader.TreeReader.push.Goals as goal
 
 pub push-requires-clause-place : goal.push-requires-clause-place
 push-requires-clause-place c =
     let s = c.self.inside in
-    let below : c.args.at < leaf_rows s.levels.items * s.columns = subst (λ (tree : FoundTree). c.args.at < found_count tree) (sym c.self.view_is) c.requires.leaf in
-    subst (λ levels. HasPlace (c.args.at % s.columns) (c.args.at / s.columns) levels) (sym c.deref_mut.ensures.value)
-    (HasPlace-leaf s.columns s.rows c.args.at s.levels.items c.self.invariant.tower below)
+    let a = c.args in
+    subst (λ levels. HasPlace (a.at % s.columns) (a.at / s.columns) levels) (sym c.deref_mut.ensures.value)
+    (place-in s.columns s.rows a.at (found_count a.self.now) s.levels.items c.self.invariant (ap (λ (tree : FoundTree). found_count tree) c.self.view_is) c.requires.leaf)
 
 pub invariant_of-self : goal.invariant_of-self
 invariant_of-self c =
     let s = c.self.inside in
     let a = c.args in
-    let x = a.at % s.columns in
-    let y = a.at / s.columns in
-    let below : a.at < leaf_rows s.levels.items * s.columns = subst (λ (tree : FoundTree). a.at < found_count tree) (sym c.self.view_is) c.requires.leaf in
-    let place : HasPlace x y s.levels.items = HasPlace-leaf s.columns s.rows a.at s.levels.items c.self.invariant.tower below in
-    let after : c.push.new.levels ≡ path_pushed a.bit a.threshold 0 x y s.levels.items = c.push.ensures ∙ ap (path_pushed a.bit a.threshold 0 x y) c.deref_mut.ensures.value in
-    let size : length c.push.new.levels ≡ s.levels.len = ap length after ∙ length-path_pushed a.bit a.threshold 0 x y s.levels.items ∙ sym s.levels.ok.0 in
-    subst (λ levels. IsWhole s.columns s.rows levels) (sym (written_back s.levels.len c.push.new.levels s.levels.items size ∙ after))
-    (IsWhole-path_pushed s.columns s.rows a.bit a.threshold 0 x y s.levels.items place c.self.invariant)
+    (pushed-kept s.columns s.rows s.levels.len a.bit a.threshold a.at (found_count a.self.now) s.levels.items _ c.push.new.levels c.self.invariant (ap (λ (tree : FoundTree). found_count tree) c.self.view_is)
+    c.requires.leaf s.levels.ok.0 c.deref_mut.ensures.value c.push.ensures).whole
 
 pub returns-clause-size : goal.returns-clause-size
 returns-clause-size c =
     let s = c.self.inside in
     let a = c.args in
-    let x = a.at % s.columns in
-    let y = a.at / s.columns in
-    let below : a.at < leaf_rows s.levels.items * s.columns = subst (λ (tree : FoundTree). a.at < found_count tree) (sym c.self.view_is) c.requires.leaf in
-    let place : HasPlace x y s.levels.items = HasPlace-leaf s.columns s.rows a.at s.levels.items c.self.invariant.tower below in
-    let after : c.push.new.levels ≡ path_pushed a.bit a.threshold 0 x y s.levels.items = c.push.ensures ∙ ap (path_pushed a.bit a.threshold 0 x y) c.deref_mut.ensures.value in
-    let size : length c.push.new.levels ≡ s.levels.len = ap length after ∙ length-path_pushed a.bit a.threshold 0 x y s.levels.items ∙ sym s.levels.ok.0 in
-    ap (λ levels. leaf_rows levels * s.columns) (written_back s.levels.len c.push.new.levels s.levels.items size ∙ after)
-    ∙ ap (λ n. n * s.columns) (leaf_rows-kept s.columns s.rows s.levels.items (path_pushed a.bit a.threshold 0 x y s.levels.items) (length-path_pushed a.bit a.threshold 0 x y s.levels.items)
-    c.self.invariant.tower (IsWhole-path_pushed s.columns s.rows a.bit a.threshold 0 x y s.levels.items place c.self.invariant).tower)
-    ∙ ap (λ (tree : FoundTree). found_count tree) c.self.view_is
+    let kept = pushed-kept s.columns s.rows s.levels.len a.bit a.threshold a.at (found_count a.self.now) s.levels.items _ c.push.new.levels c.self.invariant (ap (λ (tree : FoundTree). found_count tree) c.self.view_is)
+    c.requires.leaf s.levels.ok.0 c.deref_mut.ensures.value c.push.ensures in
+    ap (λ n. n * s.columns) kept.leaves ∙ ap (λ (tree : FoundTree). found_count tree) c.self.view_is

@@ -1,0 +1,12 @@
+//! Packets (ITU-T T.800, B.9 and B.10, with one layer), read.
+#![tactic(auto)]
+
+mod bands;
+mod block_head;
+mod codewords;
+mod memory;
+mod numbers;
+mod packet;
+mod place;
+
+pub use packet::read_packet;

@@ -1,0 +1,5 @@
+pub mod Counting
+pub mod Pending
+pub mod SmallTrees
+pub mod Trees
+pub mod Sizes
