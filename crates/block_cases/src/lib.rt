@@ -7,3 +7,5 @@ mod codes;
 mod contexts;
 #[cfg(test)]
 mod planes;
+#[cfg(test)]
+mod steps;

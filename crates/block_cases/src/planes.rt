@@ -1,7 +1,8 @@
 //! Worked decisions, each twice its context and one more where the bit is 1.
-ghost use Rattle.std.specs.Prelude.{◌≡◌, ◌<◌, ◌≤◌, ◌*◌, length};
+ghost use Rattle.std.specs.Prelude.{◌≡◌, ◌<◌, ◌≤◌, ◌*◌, ◌^◌, All, length, unsigned_abs};
 
-use block_planes::{BitPlane, CodingState, begin, plane_decisions};
+use block_coder::{BlockRoom, block_of_values};
+use block_passes::{PassState, begin, plane_decisions};
 use codec_terms::BandKind;
 use std::process::Abort;
 
@@ -15,22 +16,27 @@ struct Block<'a> {
 }
 
 /// Checks the decisions of a bit-plane.
-fn check(rt: &impl Abort, block: Block<'_>, index: u32, want: &[u8])
+fn check(rt: &impl Abort, block: Block<'_>, index: usize, want: &[u8])
     requires narrow { block.width ≤ 32 }
     requires low { block.height ≤ 32 }
     requires whole { length block.values.now ≡ block.width * block.height }
-    requires small { index < 32 }
+    requires small { All (λ v. unsigned_abs v < 2 ^ 15) block.values.now }
 {
-    let plane = BitPlane {
-        kind: block.kind,
-        width: block.width,
-        height: block.height,
-        values: block.values,
-        index,
-    };
-    let mut state = CodingState::new();
-    begin(&plane, &mut state);
-    plane_decisions(&plane, &mut state);
+    let mut room = BlockRoom::new();
+    let planes = block_of_values(
+        block.kind,
+        block.width,
+        block.height,
+        block.values,
+        &mut room,
+    );
+    if planes.planes.len() <= index {
+        assert!(rt; false, "the block has no such plane");
+        return;
+    }
+    let mut state = PassState::new();
+    begin(&planes, index, &mut state);
+    plane_decisions(&planes, index, &mut state);
     assert!(rt; state.codes() == want);
 }
 
@@ -139,24 +145,16 @@ fn codes_no_run_in_three_rows(rt: HostRuntime) {
 #[test]
 fn goes_on_behind_a_plane(rt: HostRuntime) {
     let values = [0, 0, 0, 0, 2, -3, 1, 0, 0, 0, 0, -1];
-    let first = BitPlane {
-        kind: BandKind::LH,
-        width: 4,
-        height: 3,
-        values: &values,
-        index: 1,
-    };
-    let second = BitPlane {
-        kind: BandKind::LH,
-        width: 4,
-        height: 3,
-        values: &values,
-        index: 0,
-    };
-    let mut state = CodingState::new();
-    begin(&first, &mut state);
-    plane_decisions(&first, &mut state);
+    let mut room = BlockRoom::new();
+    let planes = block_of_values(BandKind::LH, 4, 3, &values, &mut room);
+    if planes.planes.len() != 2 {
+        assert!(&rt; false, "the block has another number of planes");
+        return;
+    }
+    let mut state = PassState::new();
+    begin(&planes, 1, &mut state);
+    plane_decisions(&planes, 1, &mut state);
     assert!(rt; state.codes() == [0, 1, 18, 6, 2, 11, 25, 6, 2, 10, 2, 0, 0, 0].as_slice());
-    plane_decisions(&second, &mut state);
+    plane_decisions(&planes, 0, &mut state);
     assert!(rt; state.codes() == [6, 6, 6, 6, 2, 11, 25, 6, 2, 10, 3, 19, 30, 31].as_slice());
 }

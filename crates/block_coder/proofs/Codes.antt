@@ -1,17 +1,20 @@
 -- A block's decisions, plane by plane, in the coder.
-use Rattle.std.proofs.Common.{◌≡◌, ℕ, ℤ, max, zero, suc, ◌+◌, ◌*◌, ◌^◌, ◌<◌, ◌≤◌, refl, sym, ap, ◌∙◌, arith, inl, inr, List, [], ◌∷◌, ◌++◌, All, length, map, fold, take, reverse, append-nil, subst}
+use Rattle.std.proofs.Common.{◌≡◌, ℕ, suc, ◌+◌, ◌*◌, ◌^◌, ◌<◌, ◌≤◌, refl, sym, ap, ◌∙◌, arith, inl, inr, List, [], ◌++◌, All, length, reverse, append-nil, subst}
 use Rattle.std.specs.Prelude.{unsigned_abs}
 use Rattle.std.proofs.lemmas.Bool.{cases_lt}
-use Rattle.std.proofs.lemmas.List.{length-append, length-map}
-use Rattle.std.proofs.lemmas.List.Elements.{All-nil, All-cons}
+use Rattle.std.proofs.lemmas.List.{length-append}
+use Rattle.std.proofs.lemmas.List.Elements.{All-weaker}
+use Rattle.std.proofs.Math.Pow.{pow_mono}
 use Rattle.codec_terms.specs.BlockDecisions.{Block, cleanup, plane_count, plane_start, decisions}
 use Rattle.codec_terms.specs.Mq.{Decision, Encoder, start, coded, coded_from, flushed_bytes}
 use Rattle.codec_laws.specs.PlaneDecisions.{plane_told}
 use Rattle.codec_laws.proofs.HighestPlane.{decisions-highest}
 use Rattle.mq_laws.proofs.Lengths.{coded-append, flushed-length, whole-length}
 use Rattle.mq_coder.specs.Endings.{ending_of, Continues}
-use Rattle.block_planes.specs.declared.state.CodingState.{CodingState}
-use Rattle.block_planes.specs.Told.{decision_of, decisions_of, codes}
+use Rattle.block_sets.specs.declared.planes.BlockPlanes.{BlockPlanes}
+use Rattle.block_sets.specs.Rebuilt.{block_of}
+use Rattle.block_coder.specs.Blocks.{IsBlock}
+use Rattle.block_coder.specs.Codes.{most_decisions}
 
 abbrev pub own : Block → ℕ → List Decision
 own b p = (plane_told b p (plane_start b p)).decisions
@@ -34,15 +37,32 @@ module _ (b : Block) (small : All (λ v. unsigned_abs v < 2 ^ 64) b.values) (p :
   pub coded-plane : coded_from (coded (decisions b (suc p))) (own b p) ≡ coded (decisions b p)
   coded-plane = sym (coded-append (decisions b (suc p)) (own b p)) ∙ ap coded (sym one-plane)
 
-  pub few-more : length (own b p) ≤ 7680 → length (decisions b p) ≤ length (decisions b (suc p)) + 7680
+  pub few-more : length (own b p) ≤ most_decisions → length (decisions b p) ≤ length (decisions b (suc p)) + most_decisions
   few-more few = omega (arith, ap length one-plane, length-append (decisions b (suc p)) (own b p), few)
 
--- no magnitude is above the greatest one
-pub greatest-bounds : (values : List ℤ) (a m : ℕ) → fold max a (map unsigned_abs values) < m → (a < m) × All (λ v. unsigned_abs v < m) values
-greatest-bounds [] a m h = (h, All-nil (λ v. unsigned_abs v < m))
-greatest-bounds (v ∷ values) a m h =
-    let rest = greatest-bounds values (max a (unsigned_abs v)) m h in
-    (omega (arith, rest.0), All-cons (λ v. unsigned_abs v < m) v values (omega (arith, rest.0)) rest.1)
+-- a block's magnitudes, and its size
+pub block-small : (planes : BlockPlanes) → IsBlock planes → All (λ v. unsigned_abs v < 2 ^ 64) (block_of planes).values
+block-small planes h =
+    All-weaker (λ v. unsigned_abs v < 2 ^ length planes.planes.now) (λ v. unsigned_abs v < 2 ^ 64)
+    (λ v below. let most = pow_mono {i = length planes.planes.now} {j = 64} (omega (arith, h.few)) in omega (arith, below, most)) (block_of planes).values h.of.small
+
+-- what the laws of lower planes say, for all planes of a block
+pub lower-of :
+    (planes : BlockPlanes) → IsBlock planes →
+    ((block : Block) (p : ℕ) → length block.values ≡ block.width * block.height → All (λ v. unsigned_abs v < 2 ^ 64) block.values → plane_count block ≤ p → decisions block p ≡ []) →
+    ((block : Block) (p : ℕ) → length block.values ≡ block.width * block.height → All (λ v. unsigned_abs v < 2 ^ 64) block.values → plane_count block ≡ suc p
+    → decisions block p ≡ (cleanup block p (plane_start block p)).decisions) →
+    ((block : Block) (p : ℕ) → length block.values ≡ block.width * block.height → All (λ v. unsigned_abs v < 2 ^ 64) block.values → suc p < plane_count block
+    → decisions block p ≡ decisions block (suc p) ++ (plane_told block p (plane_start block p)).decisions) →
+    (p : ℕ) → Lower (block_of planes) p
+lower-of planes h none highest further p =
+    let b = block_of planes in
+    let small = block-small planes h in
+    record {
+      none = none b (suc p) h.of.whole small;
+      highest = highest b p h.of.whole small;
+      further = further b p h.of.whole small;
+    }
 
 coded-none : coded [] ≡ start
 unfolding coded coded_from
@@ -52,18 +72,7 @@ coded-none = refl
 pub coded-start : (e : Encoder) (ds : List Decision) → e ≡ start → ds ≡ [] → e ≡ coded ds
 coded-start e ds p q = p ∙ (sym coded-none ∙ ap coded (sym q))
 
-pub own-few : (s : CodingState) (ds : List Decision) → decisions_of (codes s) ≡ ds → length ds ≤ 7680
-own-few s ds e =
-    let count : s.count ≤ 7680 = s.counted in
-    let size : length (codes s) ≤ s.count = length-take-le s.count s.decisions in
-    omega (arith, count, size, length-map (codes s) decision_of, ap length e)
-  where
-    length-take-le : (n : ℕ) (xs : List ℕ) → length (take n xs) ≤ n
-    length-take-le zero xs = omega arith
-    length-take-le (suc n) [] = omega arith
-    length-take-le (suc n) (x ∷ xs) = omega (arith, length-take-le n xs)
-
-pub flushed-short : (e : Encoder) (ds : List Decision) → e ≡ coded ds → length ds ≤ 7680 * 32 → length (flushed_bytes e) < 2 ^ 32
+pub flushed-short : (e : Encoder) (ds : List Decision) → e ≡ coded ds → length ds ≤ most_decisions * 32 → length (flushed_bytes e) < 2 ^ 32
 flushed-short e ds p few =
     let most = (flushed-length e).most in
     let bytes : length e.registers.bytes ≤ 2 * length ds = rw p (whole-length ds) in

@@ -1,6 +1,6 @@
 -- What is kept of a block's code, ending by ending.
-use Rattle.std.proofs.Common.{◌≡◌, ℕ, suc, ◌+◌, ◌-◌, ◌<◌, refl, sym, arith, List, [], ◌∷◌, ◌++◌, length, get_or}
-use Rattle.std.proofs.lemmas.List.FromFn.{length-map-range_with_len, get_or-map-range_with_len, map-range_with_len_more}
+use Rattle.std.proofs.Common.{◌≡◌, ℕ, suc, ◌+◌, ◌-◌, ◌<◌, ◌≤◌, refl, sym, arith, List, [], ◌∷◌, ◌++◌, length, get_or, take}
+use Rattle.std.proofs.lemmas.List.FromFn.{length-map-range_with_len, get_or-map-range_with_len, map-range_with_len_more, take-map-range_with_len}
 use Rattle.codec_terms.specs.BlockDecisions.{Block, plane_count, decisions}
 use Rattle.codec_terms.specs.Mq.{codeword}
 use Rattle.mq_coder.specs.declared.ending.Ending.{Ending}
@@ -29,3 +29,9 @@ pub endings-more : (b : Block) (planes n : ℕ) (before after : List Ending) (en
     → ending ≡ ending_at b (planes - suc n) → after ≡ endings_of b planes (n + 1)
 endings-more b planes n before after ending e f g =
     rw (e, f, g) (sym (map-range_with_len_more (λ k. ending_at b (planes - suc k)) 0 n n (omega arith)))
+
+-- the endings before more planes were coded
+pub endings-earlier : (b : Block) (planes n m : ℕ) (before after : List Ending) → before ≡ endings_of b planes n → after ≡ endings_of b planes m → n ≤ m
+    → take n after ≡ before
+endings-earlier b planes n m before after e f h =
+    rw (e, f) (take-map-range_with_len (λ k. ending_at b (planes - suc k)) 0 m n h)

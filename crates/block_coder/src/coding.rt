@@ -1,110 +1,85 @@
-ghost use Rattle.std.specs.Prelude.{◌≡◌, ◌+◌, ◌-◌, ◌*◌, ◌≤◌, ◌<◌, ◌^◌, suc, ℕ, All, IfOk, OnOk, length, unsigned_abs};
-ghost use Rattle.codec_terms.specs.BlockDecisions.{plane_count, decisions};
-ghost use Rattle.codec_terms.specs.Mq.{coded};
-ghost use Rattle.block_planes.specs.Told.{IsBefore};
-ghost use Rattle.mq_coder.specs.Endings.{HasPaused};
-ghost use Rattle.block_coder.specs.Blocks.{block_of};
+ghost use Rattle.std.specs.Prelude.{◌≡◌, ◌≤◌, ◌*◌, ◌^◌, ◌<◌, All, IfOk, length, unsigned_abs};
+ghost use Rattle.codec_terms.specs.BlockDecisions.{Block};
+ghost use Rattle.block_sets.specs.Planes.{AreSetsOf};
+ghost use Rattle.block_sets.specs.Rebuilt.{block_of};
+ghost use Rattle.block_coder.specs.Blocks.{IsBlock, block_with};
 ghost use Rattle.block_coder.specs.Codes.{IsCodeOf};
 
-use crate::block::CodeBlock;
 use crate::coded::Coded;
-use block_laws::lower_plane_laws;
-use block_planes::{BitPlane, CodingState, begin, plane_decisions};
-use mast_base::{Bytes, List, NoMemory};
-use mq_coder::{Coder, Ending, States, ending_laws};
+use crate::partly::PartlyCoded;
+use block_passes::PassState;
+use block_sets::{BlockPlanes, fill_from_values, planes_in, split_block};
+use codec_terms::BandKind;
+use mast_base::NoMemory;
+use mq_coder::Coder;
 use std::alloc::Global;
 
-fn begin_plane(block: &CodeBlock<'_>, index: u32, state: &mut CodingState)
-    requires { index < 32 }
-    ensures { IsBefore (block_of block.now) index state.new }
-{
-    let plane = BitPlane {
-        kind: block.kind,
-        width: block.width,
-        height: block.height,
-        values: block.values,
-        index,
-    };
-    begin(&plane, state);
+/// Room for a code-block's words and sets.
+#[derive(Debug, Drop)]
+pub struct BlockRoom {
+    square: [[u16; 32]; 32],
+    sets: [[u64; 16]; 16],
 }
 
-// A bit-plane behind those above it.
-fn code_plane(
-    block: &CodeBlock<'_>,
-    index: u32,
-    state: &mut CodingState,
-    coder: &mut Coder,
-) -> Result<(), NoMemory>
-    requires plane { index < plane_count (block_of block.now) }
-    requires within { index < 32 }
-    requires small { All (λ v. unsigned_abs v < 2 ^ 64) block.now.values.now }
-    requires before { IsBefore (block_of block.now) index state.old }
-    requires coder { coder.old ≡ coded (decisions (block_of block.now) (suc index)) }
-    ensures coder { OnOk result (coder.new ≡ coded (decisions (block_of block.now) index)) }
-    ensures next { (p : ℕ) → index ≡ suc p → IsBefore (block_of block.now) p state.new }
-    ensures few { length (decisions (block_of block.now) index)
-        ≤ length (decisions (block_of block.now) (suc index)) + 7680 }
-{
-    let plane = BitPlane {
-        kind: block.kind,
-        width: block.width,
-        height: block.height,
-        values: block.values,
-        index,
-    };
-    lower_plane_laws();
-    plane_decisions(&plane, state);
-    coder.code_all(state.codes())
+impl BlockRoom {
+    pub fn new() -> Self {
+        BlockRoom {
+            square: [[0; 32]; 32],
+            sets: [[0; 16]; 16],
+        }
+    }
 }
 
-/// Codes one bit-plane more behind the `done` highest ones, after which the coder has paused: makes `coder`, whatever
-/// it was, that of the decisions with this plane. `state` is room that is lent for the call.
-pub fn code_further(
-    block: &CodeBlock<'_>,
-    done: u32,
-    bytes: &[u8],
-    ending: &Ending,
-    states: &States,
-    state: &mut CodingState,
-    coder: &mut Coder,
-) -> Result<(), NoMemory>
-    requires plane { done < plane_count (block_of block.now) }
-    requires paused { HasPaused (decisions (block_of block.now) (plane_count (block_of block.now) - done))
-        bytes.now ending.now states.now }
-    ensures { OnOk result (coder.new ≡ coded (decisions (block_of block.now)
-        (plane_count (block_of block.now) - suc done))) }
+/// A block of this size by its sets: its bit-planes from the lowest, and at the end the samples with negative values, as
+/// `block_sets::split_block` makes them.
+pub fn block_of_sets(
+    kind: BandKind,
+    width: usize,
+    height: usize,
+    sets: &[[u64; 16]; 16],
+) -> BlockPlanes<'_>
+    requires width { width ≤ 32 }
+    requires height { height ≤ 32 }
+    ensures block { (b : Block) → b.kind ≡ kind → b.width ≡ width → b.height ≡ height → AreSetsOf b sets.now
+        → IsBlock result }
+    ensures same { (b : Block) → b.kind ≡ kind → b.width ≡ width → b.height ≡ height → AreSetsOf b sets.now
+        → block_of result ≡ b }
 {
-    let index = block.plane_count() - 1 - done;
-    begin_plane(block, index, state);
-    coder.go_on(bytes, ending, states)?;
-    code_plane(block, index, state, coder)
+    planes_in(kind, width, height, sets)
 }
 
-/// Codes a block down to its lowest bit-plane. `state` and `coder` are room that is lent for the call.
+/// The block of these values, in raster order, whose sets are made in `room`.
+pub fn block_of_values<'a>(
+    kind: BandKind,
+    width: usize,
+    height: usize,
+    values: &[i32],
+    room: &'a mut BlockRoom,
+) -> BlockPlanes<'a>
+    requires width { width ≤ 32 }
+    requires height { height ≤ 32 }
+    requires whole { length values.now ≡ width * height }
+    requires small { All (λ v. unsigned_abs v < 2 ^ 15) values.now }
+    ensures block { IsBlock result }
+    ensures same { block_of result ≡ block_with kind width height values.now }
+{
+    fill_from_values(values, width, height, &mut room.square);
+    split_block(&room.square, &mut room.sets);
+    block_of_sets(kind, width, height, &room.sets)
+}
+
+/// Codes a block down to its lowest bit-plane. `state` and `coder` are lent for the call.
 pub fn code_block(
     alloc: Global,
-    block: &CodeBlock<'_>,
-    state: &mut CodingState,
+    block: &BlockPlanes<'_>,
+    state: &mut PassState,
     coder: &mut Coder,
 ) -> Result<Coded, NoMemory>
+    requires { IsBlock block.now }
     ensures { IfOk result (λ code. IsCodeOf (block_of block.now) code) }
 {
-    lower_plane_laws();
-    ending_laws();
-    let planes = block.plane_count();
-    let mut endings = List::new(alloc);
-    coder.start_again();
-    if 0 < planes {
-        begin_plane(block, planes - 1, state);
-    }
-    for done in 0..planes {
-        code_plane(block, planes - 1 - done, state, coder)?;
-        endings.push(coder.ending())?;
-    }
-    let bytes = Bytes::copy_of(alloc, coder.bytes())?;
-    Ok(Coded {
-        planes: planes as u8,
-        endings,
-        bytes,
-    })
+    let mut code = PartlyCoded::new(alloc);
+    code.start(block);
+    code.code_down_to(block, 0, state, coder)?;
+    Ok(code.into_coded())
 }

@@ -2,10 +2,11 @@
 //! behind each plane the registers with which a codeword may end there.
 #![tactic(auto)]
 
-mod block;
 mod coded;
 mod coding;
+mod partly;
+mod planes;
 
-pub use block::CodeBlock;
 pub use coded::Coded;
-pub use coding::{code_block, code_further};
+pub use coding::{BlockRoom, block_of_sets, block_of_values, code_block};
+pub use partly::PartlyCoded;

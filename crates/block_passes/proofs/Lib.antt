@@ -1,0 +1,17 @@
+pub mod Bits
+pub mod States
+pub mod Later
+pub mod Scan
+pub mod Zero
+pub mod Around
+pub mod Candidates
+pub mod Propagated
+pub mod Refined
+pub mod Cleaned
+pub mod Words
+pub mod Planes
+pub mod Starts
+pub mod Marking
+pub mod Rest
+pub mod Quiet
+pub mod Zeros

@@ -1,5 +1,0 @@
-pub mod Marks
-pub mod Steps
-pub mod Columns
-pub mod Planes
-pub mod Begun

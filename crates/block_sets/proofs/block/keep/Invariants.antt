@@ -1,0 +1,9 @@
+use Rattle.std.proofs.Common.{◌≡◌, ℕ, ◌<◌, ◌≤◌, get_or}
+use Rattle.std.specs.Prelude.{bit_and}
+use Rattle.block_sets.proofs.block.keep.Given as goal
+
+abbrev pub invariant-loop-w : goal.invariant-loop-w
+invariant-loop-w l = record {
+  done : (w : ℕ) → w < l.w → get_or l.set w 0 ≡ bit_and (get_or l.initial.set w 0) (get_or l.other w 0);
+  left : (w : ℕ) → l.w ≤ w → get_or l.set w 0 ≡ get_or l.initial.set w 0;
+}

@@ -1,0 +1,5 @@
+pub mod Places
+pub mod Sets
+pub mod Squares
+pub mod Planes
+pub mod Rebuilt
