@@ -1,0 +1,11 @@
+pub mod BlockRead
+pub mod CleanupRead
+pub mod Decoding
+pub mod Moves
+pub mod Numbers
+pub mod PlaneRead
+pub mod PropagationRead
+pub mod RefinementRead
+pub mod Related
+pub mod Samples
+pub mod Signs

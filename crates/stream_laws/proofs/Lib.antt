@@ -1,0 +1,6 @@
+mod TileParts
+mod BandValues
+mod StreamRead
+mod EncodingRead
+mod Sums
+mod BlockCounts
