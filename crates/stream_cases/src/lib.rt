@@ -1,0 +1,5 @@
+//! Tests of codestreams.
+#![tactic(auto)]
+
+#[cfg(test)]
+mod surveys;

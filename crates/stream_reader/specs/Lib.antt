@@ -1,0 +1,4 @@
+pub mod Refused
+pub mod Counts
+pub mod Places
+pub mod Surveys
