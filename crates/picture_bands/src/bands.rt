@@ -4,9 +4,9 @@ ghost use Rattle.codec_terms.specs.Encode.{wave, quantised_planes, coefficients}
 ghost use Rattle.codec_laws.specs.Bounds.{IsPictureSize, IsClamped};
 ghost use Rattle.quantiser.specs.Signed.{signed_values};
 ghost use Rattle.wave_level.specs.Component.{room_for};
-ghost use Rattle.picture_bands.specs.Places.{IsPictureBand};
+ghost use Rattle.band_starts.specs.Places.{IsPictureBand};
 
-use crate::places::{band_length, band_start, picture_area};
+use band_starts::{band_length, band_start, picture_area};
 use codec_terms::{Band, Shape};
 use mast_base::NoMemory;
 use picture_planes::{PixelRows, fill_planes};

@@ -3,6 +3,5 @@
 #![tactic(auto)]
 
 mod bands;
-mod places;
 
 pub use bands::PictureBands;

@@ -1,0 +1,5 @@
+pub mod RankLaws
+pub mod Changes
+pub mod Codewords
+pub mod HeaderBits
+pub mod Lengths
