@@ -8,4 +8,4 @@ mod write;
 
 pub use packing::pack_bits;
 pub use pushing::pass_bits;
-pub use write::write_packet;
+pub use write::{append_packet, write_packet};

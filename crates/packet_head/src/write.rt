@@ -13,6 +13,7 @@ use crate::pushing::{push_length, push_passes};
 use codec_terms::{PacketBand, PacketBlock};
 use mast_base::{Bytes, List, NoMemory};
 use std::alloc::Global;
+use std::mem;
 use tag_tree::TreeWriter;
 
 // Puts the bits of block number `at`, in raster order, behind the bits.
@@ -90,29 +91,20 @@ fn push_band(alloc: Global, out: &mut List<bool>, band: &PacketBand) -> Result<(
     Ok(())
 }
 
-// Puts the bytes behind the others.
-fn push_bytes(out: &mut Bytes, bytes: &[u8]) -> Result<(), NoMemory>
-    ensures { OnOk result (out.new ≡ out.old ++ bytes.now) }
-{
-    for byte in bytes {
-        out.push(*byte)?;
-    }
-    Ok(())
-}
-
 // Puts the codeword of a block behind the bytes, where it is included.
-fn push_codeword(out: &mut Bytes, block: &PacketBlock) -> Result<(), NoMemory>
-    ensures { OnOk result (out.new ≡ out.old ++ block_codeword block.now) }
+fn push_codeword(out: &mut Vec<u8>, block: &PacketBlock) -> Result<(), NoMemory>
+    ensures { OnOk result (out.new.items ≡ out.old.items ++ block_codeword block.now) }
 {
     if !block.included {
         return Ok(());
     }
-    push_bytes(out, block.codeword.as_slice())
+    out.extend_from_slice(block.codeword.as_slice())?;
+    Ok(())
 }
 
 // Puts the codewords of a sub-band's blocks behind the bytes.
-fn push_codewords(out: &mut Bytes, band: &PacketBand) -> Result<(), NoMemory>
-    ensures { OnOk result (out.new ≡ out.old ++ band_codewords band.now) }
+fn push_codewords(out: &mut Vec<u8>, band: &PacketBand) -> Result<(), NoMemory>
+    ensures { OnOk result (out.new.items ≡ out.old.items ++ band_codewords band.now) }
 {
     let blocks = band.blocks.as_slice();
     for block in blocks {
@@ -147,8 +139,38 @@ fn is_full(bands: &[PacketBand]) -> bool
     bands.iter().any(|band| has_included(band))
 }
 
-/// A packet: its header and the codewords of the blocks that are included (B.9 and B.10). Each band has as many blocks
-/// as columns times rows, and each block that is included 1 to 164 passes.
+// Puts the packet behind the bytes.
+fn push_packet(alloc: Global, bytes: &mut Vec<u8>, bands: &[PacketBand]) -> Result<(), NoMemory>
+    requires { All IsBand bands.now }
+    ensures { OnOk result (bytes.new.items ≡ bytes.old.items ++ packet bands.now) }
+{
+    if !is_full(bands) {
+        bytes.push(0)?;
+        return Ok(());
+    }
+    let bits = header_bits(alloc, bands)?;
+    let header = pack_bits(alloc, bits.as_slice())?;
+    bytes.extend_from_slice(header.as_slice())?;
+    for band in bands {
+        push_codewords(bytes, band)?;
+    }
+    Ok(())
+}
+
+/// Puts a packet behind what is in `out`: its header and the codewords of the blocks that are included (B.9 and B.10).
+/// Each band has as many blocks as columns times rows, and each block that is included 1 to 164 passes. After
+/// `NoMemory` a part of the packet may stand there.
+pub fn append_packet(alloc: Global, out: &mut Bytes, bands: &[PacketBand]) -> Result<(), NoMemory>
+    requires { All IsBand bands.now }
+    ensures { OnOk result (out.new ≡ out.old ++ packet bands.now) }
+{
+    let mut bytes = mem::replace(out, Bytes::new(alloc)).into_vec();
+    let done = push_packet(alloc, &mut bytes, bands);
+    *out = Bytes::from(bytes);
+    done
+}
+
+/// A packet of its own, as `append_packet` puts it behind others.
 pub fn write_packet(alloc: Global, bands: &[PacketBand]) -> Result<Bytes, NoMemory>
     requires { All IsBand bands.now }
     ensures packet { IfOk result (λ bytes. bytes ≡ packet bands.now) }
@@ -157,15 +179,7 @@ pub fn write_packet(alloc: Global, bands: &[PacketBand]) -> Result<Bytes, NoMemo
         → packet_read (front ++ bytes ++ rest) (length front) shapes
         ≡ Ok (packet_read_of bands.now (length front + length bytes))) }
 {
-    if !is_full(bands) {
-        let mut bytes = Bytes::new(alloc);
-        bytes.push(0)?;
-        return Ok(bytes);
-    }
-    let bits = header_bits(alloc, bands)?;
-    let mut bytes = pack_bits(alloc, bits.as_slice())?;
-    for band in bands {
-        push_codewords(&mut bytes, band)?;
-    }
+    let mut bytes = Bytes::new(alloc);
+    append_packet(alloc, &mut bytes, bands)?;
     Ok(bytes)
 }

@@ -4,3 +4,4 @@ pub mod Paths
 pub mod Building
 pub mod SizesAlone
 pub mod BlocksTold
+pub mod Bodies

@@ -3,3 +3,4 @@ pub mod Pending
 pub mod SmallTrees
 pub mod Trees
 pub mod Sizes
+pub mod Lengths

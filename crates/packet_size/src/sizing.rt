@@ -1,7 +1,8 @@
-ghost use Rattle.std.specs.Prelude.{◌≡◌, ◌+◌, ◌*◌, ◌<◌, ◌≤◌, ◌^◌, ◌∷◌, true, List, All, map, length};
+ghost use Rattle.std.specs.Prelude.{◌≡◌, ℕ, ◌+◌, ◌*◌, ◌<◌, ◌≤◌, ◌^◌, ◌∷◌, true, List, All, map, length};
 ghost use Rattle.std.specs.List.{flat_map, list_any};
 ghost use Rattle.codec_terms.specs.declared.packet.PacketBand.{PacketBand};
 ghost use Rattle.codec_terms.specs.PacketHeader.{band_bits, band_codewords, block_codeword, packed, packet};
+ghost use Rattle.packet_size.specs.Lengths.{HasLengths};
 ghost use Rattle.packet_size.specs.Sizes.{HasPassCodes, AreSizesOf, includes_some, block_of, band_of};
 
 use crate::band::put_band;
@@ -50,7 +51,7 @@ fn header_length(bands: &[BandSizes]) -> u64
     requires few { length bands.now ≤ 3 }
     requires passes { All HasPassCodes bands.now }
     ensures length { result ≡ length (packed (true ∷ flat_map band_bits (map band_of bands.now))) }
-    ensures few { result ≤ 2 ^ 32 }
+    ensures few { result ≤ 2 ^ 26 }
 {
     let mut counter = BitCounter::new();
     counter.put(1, 1);
@@ -65,6 +66,7 @@ fn body_length(bands: &[BandSizes]) -> u64
     requires { length bands.now ≤ 3 }
     ensures length { result ≡ length (flat_map band_codewords (map band_of bands.now)) }
     ensures few { result ≤ 2 ^ 40 }
+    ensures within { (most : ℕ) → All (HasLengths most) bands.now → result ≤ 48 * most }
 {
     let mut length = 0u64;
     for band in bands {
@@ -79,6 +81,7 @@ fn size_of_any(bands: &[BandSizes]) -> u64
     requires passes { All HasPassCodes bands.now }
     ensures size { result ≡ length (packet (map band_of bands.now)) }
     ensures few { result < 2 ^ 41 }
+    ensures within { (most : ℕ) → All (HasLengths most) bands.now → result ≤ 2 ^ 26 + 48 * most }
 {
     if !is_full(bands) {
         return 1;
@@ -93,6 +96,8 @@ pub fn packet_size(bands: &[BandSizes]) -> u64
     requires passes { All HasPassCodes bands.now }
     ensures size { (of : List PacketBand) → AreSizesOf bands.now of → result ≡ length (packet of) }
     ensures few { result < 2 ^ 41 }
+    // How long it can be where no codeword has more than `most` bytes.
+    ensures within { (most : ℕ) → All (HasLengths most) bands.now → result ≤ 2 ^ 26 + 48 * most }
 {
     size_of_any(bands)
 }

@@ -1,5 +1,5 @@
 use Rattle.std.proofs.Common.{◌≡◌, ◌++◌, take}
-use Rattle.packet_head.proofs.write.push_bytes.Given as goal
+use Rattle.cinema_stream.proofs.packets.push_bytes.Given as goal
 
 abbrev pub invariant-loop-byte : goal.invariant-loop-byte
 invariant-loop-byte l = l.out ≡ l.initial.out ++ take l.byte-index l.bytes

@@ -1,0 +1,5 @@
+pub mod Codes
+pub mod Included
+pub mod Areas
+pub mod Bands
+pub mod Writable

@@ -1,0 +1,4 @@
+pub mod Resolutions
+pub mod PartSums
+pub mod Written
+pub mod ChangedPlace
