@@ -7,7 +7,7 @@ use Rattle.codec_terms.specs.Reading.{on_ok, done, ◌>>=◌}
 use Rattle.codec_terms.specs.TagTree.{FoundTree, leaf_value}
 use Rattle.codec_terms.specs.PacketReading.{BitPlace, Bits, BlockHead, no_head, leaf_read, included_read, is_in_layer, blocks_read}
 use Rattle.packet_reading.specs.Refused.{IsRefused}
-use Rattle.packet_reading.proofs.Steps.{then-ok, then-err}
+use Rattle.header_bits.proofs.Steps.{then-ok, then-err}
 
 abbrev pub with_head : BlockHead → Result (List BlockHead × BitPlace) HeadRefusal → Result (List BlockHead × BitPlace) HeadRefusal
 with_head head rest = on_ok rest (λ r. Ok (head ∷ r.0, r.1))
@@ -62,10 +62,10 @@ module _ (bytes : List ℕ) (mb at : ℕ) (layers planes : FoundTree) (p : BitPl
         included-read (Ok head) h = λ more. both more ∙ then-ok (included_read bytes mb at planes_then r) (behind_planes more) (head, s) h
         included-read (Err refusal) h = tt
 
-        pub included-refused : (result : Result BlockHead HeadRefusal) → IfErr result (λ refusal. IsRefused (included_read bytes mb at planes_then r) refusal)
+        pub included-refused : (result : Result BlockHead HeadRefusal) → IfErr result (λ refusal. included_read bytes mb at planes_then r ≡ Err refusal)
             → IfErr result (λ refusal. (more : List ℕ) → IsRefused (blocks_read bytes mb layers planes (at ∷ more) p) refusal)
         included-refused (Ok head) h = tt
-        included-refused (Err refusal) h = λ more other. both more ∙ then-err (included_read bytes mb at planes_then r) (behind_planes more) refusal (h other)
+        included-refused (Err refusal) h = λ more other. both more ∙ then-err (included_read bytes mb at planes_then r) (behind_planes more) refusal h
 
 -- ---- blocks in raster order
 

@@ -1,8 +1,3 @@
-pub mod Steps
-pub mod Places
-pub mod BitNumbers
-pub mod Sizes
-pub mod Leaves
 pub mod BlockSteps
 pub mod Behind
 pub mod CodewordSteps

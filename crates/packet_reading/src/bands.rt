@@ -1,4 +1,4 @@
-ghost use Rattle.std.specs.Prelude.{◌≡◌, ◌*◌, IfOk, IfErr, Ok};
+ghost use Rattle.std.specs.Prelude.{◌≡◌, ◌*◌, ◌≤◌, ◌^◌, IfOk, IfErr, Ok, length};
 ghost use Rattle.codec_terms.specs.declared.packet.HeadRefusal.TheVariants.{NoMemory};
 ghost use Rattle.codec_terms.specs.TagTree.{blank_tree};
 ghost use Rattle.codec_terms.specs.PacketReading.{band_read, bands_read};
@@ -7,8 +7,8 @@ ghost use Rattle.packet_reading.specs.Refused.{IsRefused};
 
 use crate::block_head::{BlockHead, read_block};
 use crate::memory::push;
-use crate::place::BitPlace;
 use codec_terms::{BandShape, HeadRefusal};
+use header_bits::BitPlace;
 use mast_base::List;
 use std::alloc::Global;
 use tag_tree::TreeReader;
@@ -43,6 +43,7 @@ fn read_band(
     place: &mut BitPlace,
     shape: BandShape,
 ) -> Result<List<BlockHead>, HeadRefusal>
+    requires bounded { length bytes.now ≤ 2 ^ 60 }
     ensures read { IfOk result (λ heads. band_read bytes.now shape place.old ≡ Ok (heads, place.new)) }
     ensures refused { IfErr result (λ refusal. IsRefused (band_read bytes.now shape place.old) refusal) }
 {
@@ -64,6 +65,7 @@ pub(crate) fn read_bands(
     place: &mut BitPlace,
     shapes: &[BandShape],
 ) -> Result<List<List<BlockHead>>, HeadRefusal>
+    requires bounded { length bytes.now ≤ 2 ^ 60 }
     ensures read { IfOk result (λ bands. bands_read bytes.now shapes.now place.old ≡ Ok (bands, place.new)) }
     ensures refused { IfErr result (λ refusal. IsRefused (bands_read bytes.now shapes.now place.old) refusal) }
 {

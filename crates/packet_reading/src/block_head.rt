@@ -1,12 +1,11 @@
-ghost use Rattle.std.specs.Prelude.{◌≡◌, ◌<◌, [], ◌∷◌, List, ℕ, IfOk, IfErr, OnOk, Ok, Err, true};
+ghost use Rattle.std.specs.Prelude.{◌≡◌, ◌<◌, ◌≤◌, ◌^◌, [], ◌∷◌, List, ℕ, IfOk, IfErr, OnOk, Ok, Err, length};
 ghost use Rattle.codec_terms.specs.Reading.{on_ok};
 ghost use Rattle.codec_terms.specs.PacketReading.{no_head, leaf_read, included_read, is_in_layer, blocks_read};
 ghost use Rattle.tag_tree.specs.Trees.{found_count};
 ghost use Rattle.packet_reading.specs.Refused.{IsRefused};
 
-use crate::numbers::{read_passes, read_size};
-use crate::place::BitPlace;
 use codec_terms::HeadRefusal;
+use header_bits::{BitPlace, read_included};
 use std::marker::Model;
 use tag_tree::TreeReader;
 
@@ -72,7 +71,7 @@ pub(crate) fn read_leaf(
 }
 
 // Reads the rest of a block that is included, whose bits of the tree of zero planes were read: it is leaf number `at`.
-fn read_included(
+fn read_rest(
     bytes: &[u8],
     place: &mut BitPlace,
     mb: u8,
@@ -80,28 +79,16 @@ fn read_included(
     planes: &TreeReader,
 ) -> Result<BlockHead, HeadRefusal>
     requires leaf { at < found_count planes.now }
+    requires bounded { length bytes.now ≤ 2 ^ 60 }
     ensures read { IfOk result (λ head. included_read bytes.now mb at planes.now place.old ≡ Ok (head, place.new)) }
-    ensures refused { IfErr result (λ refusal. IsRefused (included_read bytes.now mb at planes.now place.old) refusal) }
+    ensures refused { IfErr result (λ refusal. included_read bytes.now mb at planes.now place.old ≡ Err refusal) }
 {
-    let Some(zero_planes) = planes.value(at) else {
-        return Err(HeadRefusal::TooManyPasses {
-            at: place.here(),
-            n: 0,
-        });
-    };
-    let passes = read_passes(bytes, place)?;
-    let most = (3 * u32::from(mb).saturating_sub(zero_planes)).saturating_sub(2);
-    if most < passes {
-        return Err(HeadRefusal::TooManyPasses {
-            at: place.here(),
-            n: passes,
-        });
-    }
+    let head = read_included(bytes, place, mb, planes.value(at))?;
     Ok(BlockHead {
         included: true,
-        zero_planes: zero_planes as u8,
-        passes: passes as u8,
-        size: read_size(bytes, place, passes)?,
+        zero_planes: head.zero_planes,
+        passes: head.passes,
+        size: head.size,
     })
 }
 
@@ -123,6 +110,7 @@ pub(crate) fn read_block(
 ) -> Result<BlockHead, HeadRefusal>
     requires layer { at < found_count layers.old }
     requires plane { at < found_count planes.old }
+    requires bounded { length bytes.now ≤ 2 ^ 60 }
     ensures read { IfOk result (λ head. (more : List ℕ) →
         blocks_read bytes.now mb layers.old planes.old (at ∷ more) place.old
         ≡ on_ok (blocks_read bytes.now mb layers.new planes.new more place.new) (λ r. Ok (head ∷ r.0, r.1))) }
@@ -136,5 +124,5 @@ pub(crate) fn read_block(
         return Ok(BlockHead::absent());
     }
     read_leaf(bytes, place, planes, at, mb)?;
-    read_included(bytes, place, mb, at, planes)
+    read_rest(bytes, place, mb, at, planes)
 }

@@ -5,8 +5,6 @@ mod bands;
 mod block_head;
 mod codewords;
 mod memory;
-mod numbers;
 mod packet;
-mod place;
 
 pub use packet::read_packet;

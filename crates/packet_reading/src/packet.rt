@@ -6,8 +6,8 @@ ghost use Rattle.packet_reading.specs.Refused.{IsRefused};
 use crate::bands::{block_count, read_bands};
 use crate::codewords::{absent_block, read_band_codewords};
 use crate::memory::push;
-use crate::place::BitPlace;
 use codec_terms::{BandShape, HeadRefusal, PacketBand, PacketRead};
+use header_bits::BitPlace;
 use mast_base::List;
 use std::alloc::Global;
 
@@ -48,6 +48,10 @@ fn read_full_packet(
     ensures read { IfOk result (λ packet. full_packet_read bytes.now shapes.now place.old ≡ Ok packet) }
     ensures refused { IfErr result (λ refusal. IsRefused (full_packet_read bytes.now shapes.now place.old) refusal) }
 {
+    // No memory has 2^60 bytes.
+    if 1 << 60 < bytes.len() {
+        return Err(HeadRefusal::NoMemory);
+    }
     let heads = read_bands(alloc, bytes, place, shapes)?;
     let mut next = place.header_end(bytes)?;
     let bands = read_band_codewords(alloc, bytes, shapes, heads.as_slice(), &mut next)?;

@@ -1,6 +1,2 @@
-pub mod Behind
-pub mod Advances
-pub mod Listed
-pub mod PacketSteps
-pub mod PartSteps
-pub mod StreamSteps
+pub mod Filled
+pub mod Whole

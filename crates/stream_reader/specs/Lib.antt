@@ -1,4 +1,1 @@
-pub mod Refused
-pub mod Counts
-pub mod Places
-pub mod Surveys
+pub mod Values

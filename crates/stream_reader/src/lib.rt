@@ -1,11 +1,7 @@
-//! A codestream (ITU-T T.800, in this profile), read.
+//! A codestream (ITU-T T.800, in this profile), read to its coefficients.
 #![tactic(auto)]
 
-mod counts;
-mod packet;
-mod packets;
-mod parts;
-mod precinct;
-mod survey;
+mod stream;
+mod values;
 
-pub use survey::{Survey, survey_stream};
+pub use stream::read_stream;

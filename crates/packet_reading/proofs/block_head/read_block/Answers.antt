@@ -34,7 +34,7 @@ returns-clause-read c =
     let layers = c.read_leaf.new.tree in
     let within : is_in_layer a.bytes.now (leaf_value layers a.at) ≡ true = ap (is_in_layer a.bytes.now) (sym c.value.ensures) ∙ sym c.is_in_layer.ensures ∙ c.if-not-is_in_layer.false in
     included-read a.bytes.now a.mb a.at a.layers.now a.planes.now a.place.now layers c.read_leaf.new.place c.in_ok-read_leaf.ensures.read within
-    c.read_leaf-2.new.tree c.read_leaf-2.new.place c.read_included.new.place c.in_ok-read_leaf-2.ensures.read c.read_included.result c.read_included.ensures.read
+    c.read_leaf-2.new.tree c.read_leaf-2.new.place c.read_rest.new.place c.in_ok-read_leaf-2.ensures.read c.read_rest.result c.read_rest.ensures.read
 
 pub returns-clause-refused : goal.returns-clause-refused
 returns-clause-refused c =
@@ -42,4 +42,4 @@ returns-clause-refused c =
     let layers = c.read_leaf.new.tree in
     let within : is_in_layer a.bytes.now (leaf_value layers a.at) ≡ true = ap (is_in_layer a.bytes.now) (sym c.value.ensures) ∙ sym c.is_in_layer.ensures ∙ c.if-not-is_in_layer.false in
     included-refused a.bytes.now a.mb a.at a.layers.now a.planes.now a.place.now layers c.read_leaf.new.place c.in_ok-read_leaf.ensures.read within
-    c.read_leaf-2.new.tree c.read_leaf-2.new.place c.read_included.new.place c.in_ok-read_leaf-2.ensures.read c.read_included.result c.read_included.ensures.refused
+    c.read_leaf-2.new.tree c.read_leaf-2.new.place c.read_rest.new.place c.in_ok-read_leaf-2.ensures.read c.read_rest.result c.read_rest.ensures.refused

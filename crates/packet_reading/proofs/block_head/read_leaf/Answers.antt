@@ -1,7 +1,7 @@
 use Rattle.std.proofs.Common.{◌≡◌, ◌∙◌, ◌+◌, ◌-◌, ◌*◌, suc, sym, ap, arith, true, false}
 use Rattle.std.proofs.lemmas.Result.{err_from_is_err_and}
 use Rattle.codec_terms.specs.TagTree.{wants, pushed}
-use Rattle.packet_reading.proofs.Leaves.{leaf_read_within-none, leaf_read_within-unwanted, leaf_read_within-more, leaf_read_within-err}
+use Rattle.header_bits.proofs.Leaves.{leaf_read_within-none, leaf_read_within-unwanted, leaf_read_within-more, leaf_read_within-err}
 use Rattle.packet_reading.proofs.block_head.read_leaf.Goals as goal
 
 pub returns-then-not-wants-clause-read : goal.returns-then-not-wants-clause-read

@@ -1,0 +1,10 @@
+pub mod Scan
+pub mod Words
+pub mod Cells
+pub mod Fields
+pub mod Propagated
+pub mod Bounds
+pub mod Refined
+pub mod Cleaned
+pub mod Order
+pub mod Gathered

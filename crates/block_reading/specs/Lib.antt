@@ -1,0 +1,5 @@
+pub mod Scan
+pub mod Known
+pub mod Bounds
+pub mod Todo
+pub mod Order

@@ -1,0 +1,4 @@
+pub mod Nodes
+pub mod SmallTrees
+pub mod Trees
+pub mod Scanning

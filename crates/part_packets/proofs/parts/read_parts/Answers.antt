@@ -1,0 +1,44 @@
+use Rattle.std.proofs.Common.{◌≤◌, arith}
+use Rattle.std.proofs.lemmas.Result.{err_from_is_err_and}
+use Rattle.part_packets.specs.Shapes.{AreParts}
+use Rattle.part_packets.proofs.Behind.{one_more, all_read, refused_there}
+use Rattle.part_packets.proofs.Counting.{part-counted}
+use Rattle.part_packets.proofs.PartSteps.{next_part, next_part_refused, no_parts, next_part-fits, all_fit}
+use Rattle.part_packets.proofs.parts.read_parts.Goals as goal
+
+pub returns-in_err-part-clause-refused : goal.returns-in_err-part-clause-refused
+returns-in_err-part-clause-refused c =
+    let e = err_from_is_err_and c.from_residual.result c.from_residual.ensures.1 in
+    let a = c.args in
+    let l = c.loop-component in
+    rw (e.1, e.2) (refused_there _ _ l.parts l.invariant.same c.in_err-part.field-0.0
+    (next_part_refused a.bytes.now a.head.now l.component l.at c.in_err-part.field-0.0 c.loop-component-test.true c.in_err-part.ensures.refused))
+
+pub loop-component-preserved : goal.loop-component-preserved
+loop-component-preserved c =
+    let a = c.args in
+    let l = c.loop-component in
+    let part = c.in_ok-part.part in
+    record {
+      same =
+          one_more _ _ l.parts l.invariant.same part.packets _ _
+          (next_part a.bytes.now a.head.now l.component l.at part.packets part.next c.loop-component-test.true c.in_ok-part.ensures.read)
+          c.in_ok-push.ensures.pushed;
+      counted = part-counted l.parts part.packets _ l.blocks part.blocks l.invariant.counted c.in_ok-part.ensures.blocks c.in_ok-push.ensures.pushed;
+      shapes = next_part-fits a.head.now l.component l.parts part.packets _ c.loop-component-test.true l.invariant.shapes c.in_ok-part.ensures.shapes c.in_ok-push.ensures.pushed;
+      there = c.in_ok-part.ensures.there;
+      few = omega (arith, l.invariant.few, c.in_ok-part.ensures.few);
+    }
+
+pub returns-clause-read : goal.returns-clause-read
+returns-clause-read c =
+    let a = c.args in
+    let l = c.loop-component in
+    let past : 3 ≤ l.component = omega arith in
+    all_read _ _ l.parts l.invariant.same l.at (no_parts a.bytes.now a.head.now l.component l.at past)
+
+pub returns-clause-shapes : goal.returns-clause-shapes
+unfolding AreParts
+returns-clause-shapes c =
+    let past : 3 ≤ c.loop-component.component = omega arith in
+    all_fit c.args.head.now c.loop-component.component c.loop-component.parts past c.loop-component.invariant.shapes

@@ -1,6 +1,0 @@
-use Rattle.std.proofs.Common.{◌≡◌, take, sum_by}
-use Rattle.codec_terms.specs.StreamReading.{included_in}
-use Rattle.stream_reader.proofs.counts.included_blocks.Given as goal
-
-abbrev pub invariant-loop-band : goal.invariant-loop-band
-invariant-loop-band l = l.count ≡ sum_by included_in (take l.band-index l.bands)

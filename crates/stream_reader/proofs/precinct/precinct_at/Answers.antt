@@ -1,9 +1,0 @@
-use Rattle.std.proofs.Common.{refl, sym}
-use Rattle.stream_reader.proofs.Listed.{listed, exists}
-use Rattle.stream_reader.proofs.precinct.precinct_at.Goals as goal
-
-pub returns : goal.returns
-returns c =
-    let is = sym c.in-Some.ensures in
-    let e = exists c.args.shape c.args.n c.in-Some.resolution c.in-Some.number (listed c.args.shape c.args.n c.in-Some.resolution c.in-Some.number is) in
-    record { of_component = refl; listed = is; resolution = e.resolution_few; number = e.number_few }
