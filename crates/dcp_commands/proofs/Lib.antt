@@ -1,2 +1,4 @@
 mod Making
 mod Printing
+mod Reading
+mod Running

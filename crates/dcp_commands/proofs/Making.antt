@@ -22,6 +22,7 @@ use Rattle.make_engine.specs.declared.outcome.Report.{Report}
 use Rattle.mast_world.specs.Content.{Files}
 use Rattle.mast_world.specs.Count.{HasRisen, counted}
 use Rattle.mast_world.specs.declared.volume.FileId.{FileId}
+use Rattle.stream_inspect.specs.declared.ends.InspectEnd.TheVariants as of_read
 use Rattle.dcp_commands.specs.Make.{IsCause, IsMakeStop, IsPackage, IsPlanStop, IsStop, checked, frames_of, of_checked, package_of, project_of, text_of, with_plan}
 use Rattle.dcp_commands.specs.Status.{Answers, plan_status, refused_status, status_of, stopped_status}
 use Rattle.dcp_commands.specs.Words.{MakeWords, make_words}
@@ -127,6 +128,11 @@ ordinary (stop.Make (of_make.Frame of_frame.NoMemory)) = tt
 ordinary (stop.Make of_make.StoreFault) = tt
 ordinary (stop.Make of_make.Unbuilt) = tt
 ordinary (stop.Make of_make.NoMemory) = tt
+ordinary (stop.Read (of_read.Missing name)) = tt
+ordinary (stop.Read (of_read.TooLong size)) = tt
+ordinary (stop.Read (of_read.Bad refusal)) = tt
+ordinary (stop.Read of_read.Fault) = tt
+ordinary (stop.Read of_read.NoMemory) = tt
 ordinary stop.NoMemory = tt
 
 pub never_done : (stopped : Stopped) â†’ stopped_status stopped â‰¡ Done â†’ âŠ¥
@@ -212,6 +218,7 @@ module _ {A B C : Type 0} (tells : Type 0) (files : Files) (words : List (List â
   stop_cause (stop.Make of_make.Unbuilt) is =
       (Î» told. checked_unbuilt files words is.asked is.project is.accepted (is.told told) is.cause.0, is.cause.1)
   stop_cause (stop.Make of_make.NoMemory) is = tt
+  stop_cause (stop.Read end) is = absurd is
   stop_cause stop.NoMemory is = tt
 
   -- what is printed is answered
@@ -249,6 +256,7 @@ module _ {A B C : Type 0} (tells : Type 0) (files : Files) (words : List (List â
   stop_told (stop.Make of_make.Unbuilt) wanted told is wants =
       early_told Unbuilt Unbuilt wanted refl (checked_unbuilt files words is.asked is.project is.accepted (is.told told) is.cause.0) wants
   stop_told (stop.Make of_make.NoMemory) wanted told is wants = inr (inr refl)
+  stop_told (stop.Read end) wanted told is wants = absurd is
   stop_told stop.NoMemory wanted told is wants = inr (inr refl)
 
   -- where there is a package and no count of faults rose, want of memory is left
@@ -285,6 +293,7 @@ module _ {A B C : Type 0} (tells : Type 0) (files : Files) (words : List (List â
   stop_left (stop.Make of_make.Unbuilt) told some calm still is =
       early_left Unbuilt Unbuilt (checked_unbuilt files words is.asked is.project is.accepted (is.told told) is.cause.0) some
   stop_left (stop.Make of_make.NoMemory) told some calm still is = refl
+  stop_left (stop.Read end) told some calm still is = absurd is
   stop_left stop.NoMemory told some calm still is = refl
 
   -- ---- what an outcome and its printed answer lead to

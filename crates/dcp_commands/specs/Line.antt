@@ -4,8 +4,9 @@ use Rattle.std.specs.Fmt.{decimal}
 use Rattle.film_project.specs.Refusals.{refusal_line}
 use Rattle.make_engine.specs.declared.outcome.BadWhy.{BadWhy}
 use Rattle.make_engine.specs.declared.outcome.BadWhy.TheVariants.{Limit}
+use Rattle.stream_inspect.specs.Texts.{refusal_line as stream_line}
 use Rattle.dcp_commands.specs.declared.status.Status.{Status}
-use Rattle.dcp_commands.specs.declared.status.Status.TheVariants.{Done, Usage, ProjectRefused, InputMissing, InputShort, SourceFault, StoreFault, SinkFault, NoMemory, BadFrame, Unbuilt}
+use Rattle.dcp_commands.specs.declared.status.Status.TheVariants.{Done, Usage, ProjectRefused, InputMissing, InputShort, SourceFault, StoreFault, SinkFault, NoMemory, BadFrame, BadStream, InputTooLong, Unbuilt}
 
 -- how a frame's input breaks its form
 abbrev pub why_text : BadWhy → List ℕ
@@ -27,6 +28,8 @@ status_text done StoreFault = codes "store fault"
 status_text done SinkFault = []
 status_text done NoMemory = codes "no memory"
 status_text done (BadFrame frame why) = codes "bad frame: " ++ (decimal frame ++ (codes " " ++ why_text why))
+status_text done (BadStream refusal) = codes "bad stream: " ++ stream_line refusal
+status_text done (InputTooLong size) = codes "input too long: " ++ decimal size
 status_text done Unbuilt = codes "unbuilt"
 
 abbrev pub line_of : List ℕ → Status → List ℕ
@@ -56,4 +59,6 @@ exit_code StoreFault = 8
 exit_code SinkFault = 9
 exit_code NoMemory = 11
 exit_code (BadFrame frame why) = 12
+exit_code (BadStream refusal) = 14
+exit_code (InputTooLong size) = 15
 exit_code Unbuilt = 17

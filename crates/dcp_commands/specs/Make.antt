@@ -20,7 +20,7 @@ use Rattle.dcp_commands.specs.Words.{MakeWords, make_words}
 use Rattle.dcp_commands.specs.declared.stopped.Stopped.{Stopped}
 use Rattle.dcp_commands.specs.declared.stopped.Stopped.TheVariants as stop
 use Rattle.dcp_commands.specs.declared.status.Status.{Status}
-use Rattle.dcp_commands.specs.declared.status.Status.TheVariants.{Done, Usage, ProjectRefused, InputMissing, InputShort, SourceFault, StoreFault, SinkFault, NoMemory, BadFrame, Unbuilt}
+use Rattle.dcp_commands.specs.declared.status.Status.TheVariants.{Done, Usage, ProjectRefused, InputMissing, InputShort, SourceFault, StoreFault, SinkFault, NoMemory, BadFrame, BadStream, InputTooLong, Unbuilt}
 
 -- ---- what the words and the files lead to
 
@@ -120,6 +120,8 @@ module _ {A B : Type 0} (tells : Type 0) (files : Files) (words : List (List ℕ
   IsCause sink_faults out out_now SinkFault = HasRisen (sink_faults out) (sink_faults out_now)
   IsCause sink_faults out out_now NoMemory = ⊤
   IsCause sink_faults out out_now (BadFrame frame why) = IsBadInProject tells files words frame why
+  IsCause sink_faults out out_now (BadStream refusal) = ⊥
+  IsCause sink_faults out out_now (InputTooLong size) = ⊥
   IsCause sink_faults out out_now Unbuilt = IsEarly Unbuilt
 
   -- the plan of the words' project ended so
@@ -144,4 +146,5 @@ module _ {A B : Type 0} (tells : Type 0) (files : Files) (words : List (List ℕ
   IsStop stop.Usage = (make_words words ≡ None) × IsUnwritten reads put volume volume_now
   IsStop (stop.Plan end) = IsPlanStop end
   IsStop (stop.Make end) = IsMakeStop end
+  IsStop (stop.Read end) = ⊥
   IsStop stop.NoMemory = ⊤

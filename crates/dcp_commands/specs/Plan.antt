@@ -16,7 +16,7 @@ use Rattle.film_inputs.specs.declared.ends.PlanEnd.{PlanEnd}
 use Rattle.dcp_commands.specs.declared.stopped.Stopped.{Stopped}
 use Rattle.dcp_commands.specs.declared.stopped.Stopped.TheVariants as stop
 use Rattle.dcp_commands.specs.declared.status.Status.{Status}
-use Rattle.dcp_commands.specs.declared.status.Status.TheVariants.{Done, Usage, ProjectRefused, InputMissing, InputShort, SourceFault, StoreFault, SinkFault, NoMemory, BadFrame, Unbuilt}
+use Rattle.dcp_commands.specs.declared.status.Status.TheVariants.{Done, Usage, ProjectRefused, InputMissing, InputShort, SourceFault, StoreFault, SinkFault, NoMemory, BadFrame, BadStream, InputTooLong, Unbuilt}
 
 abbrev pub size_text : ProjectFacts → List ℕ
 size_text project =
@@ -45,8 +45,8 @@ with_name files (Some name) = of_plan (planned files name)
 abbrev pub checked_plan : Files → List (List ℕ) → Result ProjectFacts Status
 checked_plan files words = with_name files (plan_words words)
 
-abbrev pub status_in : Result ProjectFacts Status → Status
-status_in (Ok project) = Done
+abbrev pub status_in : {T : Type 0} → Result T Status → Status
+status_in (Ok x) = Done
 status_in (Err status) = status
 
 -- the text of `Done`: the plan of the project that the words name
@@ -66,6 +66,7 @@ module _ {A : Type 0} (tells : Type 0) (files : Files) (words : List (List ℕ))
   IsStop stop.Usage = plan_words words ≡ None
   IsStop (stop.Plan end) = IsPlanStop end
   IsStop (stop.Make end) = ⊥
+  IsStop (stop.Read end) = ⊥
   IsStop stop.NoMemory = ⊤
 
   abbrev pub IsPlanned : Status → Type 0
@@ -88,4 +89,6 @@ module _ {A : Type 0} (tells : Type 0) (files : Files) (words : List (List ℕ))
   IsCause sink_faults out out_now NoMemory = ⊤
   IsCause sink_faults out out_now StoreFault = ⊥
   IsCause sink_faults out out_now (BadFrame frame why) = ⊥
+  IsCause sink_faults out out_now (BadStream refusal) = ⊥
+  IsCause sink_faults out out_now (InputTooLong size) = ⊥
   IsCause sink_faults out out_now Unbuilt = ⊥

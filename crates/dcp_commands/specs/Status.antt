@@ -12,10 +12,12 @@ use Rattle.make_engine.specs.declared.outcome.FrameEnd.{FrameEnd}
 use Rattle.make_engine.specs.declared.outcome.FrameEnd.TheVariants as of_frame
 use Rattle.make_engine.specs.declared.outcome.MakeEnd.{MakeEnd}
 use Rattle.make_engine.specs.declared.outcome.MakeEnd.TheVariants as of_make
+use Rattle.stream_inspect.specs.declared.ends.InspectEnd.{InspectEnd}
+use Rattle.stream_inspect.specs.declared.ends.InspectEnd.TheVariants as of_read
 use Rattle.dcp_commands.specs.declared.stopped.Stopped.{Stopped}
 use Rattle.dcp_commands.specs.declared.stopped.Stopped.TheVariants as stop
 use Rattle.dcp_commands.specs.declared.status.Status.{Status}
-use Rattle.dcp_commands.specs.declared.status.Status.TheVariants.{Done, Usage, ProjectRefused, InputMissing, InputShort, SourceFault, StoreFault, SinkFault, NoMemory, BadFrame, Unbuilt}
+use Rattle.dcp_commands.specs.declared.status.Status.TheVariants.{Done, Usage, ProjectRefused, InputMissing, InputShort, SourceFault, StoreFault, SinkFault, NoMemory, BadFrame, BadStream, InputTooLong, Unbuilt}
 
 abbrev pub input_status : InputEnd → Status
 input_status (input.Missing name) = InputMissing name
@@ -47,10 +49,18 @@ make_status of_make.StoreFault = StoreFault
 make_status of_make.Unbuilt = Unbuilt
 make_status of_make.NoMemory = NoMemory
 
+abbrev pub read_status : InspectEnd → Status
+read_status (of_read.Missing name) = InputMissing name
+read_status (of_read.TooLong size) = InputTooLong size
+read_status (of_read.Bad refusal) = BadStream refusal
+read_status of_read.Fault = SourceFault
+read_status of_read.NoMemory = NoMemory
+
 abbrev pub stopped_status : Stopped → Status
 stopped_status stop.Usage = Usage
 stopped_status (stop.Plan end) = plan_status end
 stopped_status (stop.Make end) = make_status end
+stopped_status (stop.Read end) = read_status end
 stopped_status stop.NoMemory = NoMemory
 
 -- the status of an outcome

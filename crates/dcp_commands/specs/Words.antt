@@ -20,3 +20,8 @@ make_words words = None
 abbrev pub plan_words : List (List ℕ) → Option (List ℕ)
 plan_words (command ∷ project ∷ []) = if bytes_eq command (codes "plan") && is_positional project then Some project else None
 plan_words words = None
+
+-- what `read` is asked for: the name of a codestream's file
+abbrev pub read_words : List (List ℕ) → Option (List ℕ)
+read_words (command ∷ file ∷ []) = if bytes_eq command (codes "read") && is_positional file then Some file else None
+read_words words = None

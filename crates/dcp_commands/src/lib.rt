@@ -1,15 +1,17 @@
 //! The commands of the programs: their words, what they do, and what they print.
 #![tactic(auto)]
 
-mod inspect;
+mod command;
 mod line;
 mod make;
+mod plan;
 mod plan_text;
+mod read;
 mod status;
 mod stopped;
 mod words;
 
-pub use inspect::run;
+pub use command::run;
 pub use make::run_make;
 pub use status::Status;
 pub use words::out_name;

@@ -46,6 +46,12 @@ fn short_text(alloc: Global, asset: &[u8], size: u64, need: u64) -> Result<Vec<u
     Ok(text)
 }
 
+fn too_long_text(alloc: Global, size: u64) -> Result<Vec<u8>, NoMemory>
+    ensures { IfOk result (λ text. text.items ≡ codes "input too long: " ++ decimal size) }
+{
+    Ok(format!(in alloc; "input too long: {size}")?.into_bytes())
+}
+
 fn prefixed(alloc: Global, front: &[u8], rest: &[u8]) -> Result<Vec<u8>, NoMemory>
     ensures { IfOk result (λ text. text.items ≡ front.now ++ rest.now) }
 {
@@ -74,6 +80,11 @@ fn status_text(alloc: Global, status: &Status, done: &[u8]) -> Result<Vec<u8>, N
         Status::SinkFault => Ok(Vec::new(alloc)),
         Status::NoMemory => Ok(b"no memory".to_vec(alloc)?),
         Status::BadFrame { frame, why } => Ok(bad_frame_text(alloc, *frame, *why)?.into_bytes()),
+        Status::BadStream { refusal } => {
+            let text = stream_inspect::refusal_text(alloc, *refusal)?;
+            prefixed(alloc, b"bad stream: ", text.as_slice())
+        }
+        Status::InputTooLong { size } => too_long_text(alloc, *size),
         Status::Unbuilt => Ok(b"unbuilt".to_vec(alloc)?),
     }
 }

@@ -1,9 +1,11 @@
 use crate::stopped::Stopped;
+use codec_terms::ReadRefusal;
 use film_inputs::{InputEnd, PlanEnd};
 use film_plan::PlanRefusal;
 use film_project::ProjectRefusal;
 use make_engine::{BadWhy, FrameEnd, MakeEnd};
 use mast_base::Bytes;
+use stream_inspect::InspectEnd;
 
 /// How a command ended.
 #[derive(Debug, Drop)]
@@ -22,6 +24,10 @@ pub enum Status {
     SinkFault,
     NoMemory,
     BadFrame { frame: u32, why: BadWhy },
+    /// The bytes of the file are no codestream.
+    BadStream { refusal: ReadRefusal },
+    /// The file has more bytes than are read.
+    InputTooLong { size: u64 },
     /// The project asks for what isn't built yet.
     Unbuilt,
 }
@@ -118,6 +124,23 @@ impl From<MakeEnd> for Status {
     }
 }
 
+impl From<InspectEnd> for Status {
+    ghost use Rattle.std.specs.Prelude.{◌≡◌};
+    ghost use Rattle.dcp_commands.specs.Status.{read_status};
+
+    ghost from_gives = { λ end status. status ≡ read_status end };
+
+    fn from(end: InspectEnd) -> Self {
+        match end {
+            InspectEnd::Missing { name } => Status::InputMissing { name },
+            InspectEnd::TooLong { size } => Status::InputTooLong { size },
+            InspectEnd::Bad(refusal) => Status::BadStream { refusal },
+            InspectEnd::Fault => Status::SourceFault,
+            InspectEnd::NoMemory => Status::NoMemory,
+        }
+    }
+}
+
 impl From<Stopped> for Status {
     ghost use Rattle.std.specs.Prelude.{◌≡◌};
     ghost use Rattle.dcp_commands.specs.Status.{stopped_status};
@@ -129,6 +152,7 @@ impl From<Stopped> for Status {
             Stopped::Usage => Status::Usage,
             Stopped::Plan(end) => end.into(),
             Stopped::Make(end) => end.into(),
+            Stopped::Read(end) => end.into(),
             Stopped::NoMemory => Status::NoMemory,
         }
     }
@@ -153,6 +177,8 @@ impl Status {
             Status::SinkFault => 9,
             Status::NoMemory => 11,
             Status::BadFrame { .. } => 12,
+            Status::BadStream { .. } => 14,
+            Status::InputTooLong { .. } => 15,
             Status::Unbuilt => 17,
         }
     }

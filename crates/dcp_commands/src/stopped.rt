@@ -1,6 +1,7 @@
 use film_inputs::PlanEnd;
 use make_engine::MakeEnd;
 use mast_base::NoMemory;
+use stream_inspect::InspectEnd;
 
 /// Why a command has nothing to print but its status.
 #[derive(Debug, Drop)]
@@ -9,6 +10,7 @@ pub(crate) enum Stopped {
     Usage,
     Plan(PlanEnd),
     Make(MakeEnd),
+    Read(InspectEnd),
     NoMemory,
 }
 
@@ -31,6 +33,17 @@ impl From<MakeEnd> for Stopped {
 
     fn from(end: MakeEnd) -> Self {
         Stopped::Make(end)
+    }
+}
+
+impl From<InspectEnd> for Stopped {
+    ghost use Rattle.std.specs.Prelude.{◌≡◌};
+    ghost use Rattle.dcp_commands.specs.declared.stopped.Stopped.TheVariants.{Read};
+
+    ghost from_gives = { λ end stopped. stopped ≡ Read end };
+
+    fn from(end: InspectEnd) -> Self {
+        Stopped::Read(end)
     }
 }
 

@@ -1,5 +1,5 @@
 ghost use Rattle.std.specs.Prelude.{◌≡◌, map, option_map, string_bytes, IfOk};
-ghost use Rattle.dcp_commands.specs.Words.{MakeWords, is_positional, make_words, plan_words};
+ghost use Rattle.dcp_commands.specs.Words.{MakeWords, is_positional, make_words, plan_words, read_words};
 
 use mast_base::{Bytes, NoMemory};
 use std::alloc::Global;
@@ -43,6 +43,20 @@ pub(crate) fn plan_words(words: &[String]) -> Option<&str>
     };
     if command.as_str() == "plan" && is_positional(project.as_str()) {
         Some(project.as_str())
+    } else {
+        None
+    }
+}
+
+/// The name of the codestream's file that is to be read.
+pub(crate) fn read_words(words: &[String]) -> Option<&str>
+    ensures { option_map (λ file. file.now) result ≡ read_words (map string_bytes words.now) }
+{
+    let [command, file] = words else {
+        return None;
+    };
+    if command.as_str() == "read" && is_positional(file.as_str()) {
+        Some(file.as_str())
     } else {
         None
     }

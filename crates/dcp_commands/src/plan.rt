@@ -32,9 +32,8 @@ fn show_plan<S: Source>(alloc: Global, words: &[String], source: &mut S) -> Resu
     Ok(plan_text(alloc, &plan)?)
 }
 
-/// Runs a command that writes no folder: `plan` checks a project and its inputs, and prints what a
-/// run would make.
-pub fn run<S: Source, O: Sink>(
+/// Runs `plan`: checks a project and its inputs, and prints what a run would make.
+pub(crate) fn run_plan<S: Source, O: Sink>(
     alloc: Global,
     words: &[String],
     source: &mut S,

@@ -1,0 +1,62 @@
+-- What `run` prints, and why it ends so, whichever command it is asked for.
+use Rattle.std.specs.Prelude.{◌≡◌, ◌⊎◌, ℕ, ◌<◌, List, Option, Some, None, IsSome, Result, Ok, Err, ⊤}
+use Rattle.film_inputs.specs.Causes.{IsInputName}
+use Rattle.film_project.specs.Facts.{ProjectFacts}
+use Rattle.mast_world.specs.Content.{Files}
+use Rattle.mast_world.specs.Count.{HasRisen}
+use Rattle.stream_inspect.specs.Causes.{IsRefusalOf, IsToldOf}
+use Rattle.stream_inspect.specs.Inspect.{greatest_size}
+use Rattle.stream_inspect.specs.Texts.{inspected_text}
+use Rattle.stream_inspect.specs.declared.file.Inspected.{Inspected}
+use Rattle.dcp_commands.specs.Plan.{checked_plan, plan_text}
+use Rattle.dcp_commands.specs.Read.{read_answer}
+use Rattle.dcp_commands.specs.Words.{plan_words, read_words}
+use Rattle.dcp_commands.specs.declared.status.Status.{Status}
+use Rattle.dcp_commands.specs.declared.status.Status.TheVariants.{Done, Usage, ProjectRefused, InputMissing, InputShort, SourceFault, StoreFault, SinkFault, NoMemory, BadFrame, BadStream, InputTooLong, Unbuilt}
+
+abbrev pub plan_answer : Result ProjectFacts Status → Result (List ℕ) Status
+plan_answer (Ok project) = Ok (plan_text project)
+plan_answer (Err status) = Err status
+
+abbrev pub with_file : Files → List (List ℕ) → Option (List ℕ) → Result (List ℕ) Status
+with_file files words (Some name) = read_answer files name
+with_file files words None = plan_answer (checked_plan files words)
+
+-- the lines that the words ask for, or how the command ends
+abbrev pub run_answer : Files → List (List ℕ) → Result (List ℕ) Status
+run_answer files words = with_file files words (read_words words)
+
+-- the lines of a project's plan, or of what is told of some bytes
+abbrev pub IsLines : List ℕ → Type 0
+IsLines text = ((project : ProjectFacts) × (text ≡ plan_text project)) ⊎ ((it : Inspected) × IsToldOf it × (text ≡ inspected_text it))
+
+-- the text of `Done`: where the source tells its contents, that which the words ask for
+pub record IsRunText (tells : Type 0) (files : Files) (words : List (List ℕ)) (text : List ℕ) : Type 0 where
+  pub lines : IsLines text
+  pub told : tells → run_answer files words ≡ Ok text
+
+-- Devices are given by what they tell and count, and by their states before and now.
+module _ {A : Type 0} (tells : Type 0) (files : Files) (words : List (List ℕ)) (absent faults : A → ℕ) (before now : A) where
+  -- words and files end the command so
+  abbrev pub IsEnd : Status → Type 0
+  IsEnd status = tells → run_answer files words ≡ Err status
+
+  -- the file that is to be read; else the words' project, or a single file of a project that keeps the rules
+  abbrev pub IsNamed : List ℕ → Type 0
+  IsNamed name = (read_words words ≡ Some name) ⊎ ((asked : List ℕ) × (plan_words words ≡ Some asked) × IsInputName asked name)
+
+  -- {C} is the sink
+  abbrev pub IsCause : {C : Type 0} → (C → ℕ) → C → C → Status → Type 0
+  IsCause sink_faults out out_now Done = (faults now ≡ faults before) × (sink_faults out_now ≡ sink_faults out)
+  IsCause sink_faults out out_now Usage = (plan_words words ≡ None) × (read_words words ≡ None)
+  IsCause sink_faults out out_now (ProjectRefused refusal) = IsEnd (ProjectRefused refusal)
+  IsCause sink_faults out out_now (InputMissing name) = HasRisen (absent before) (absent now) × IsNamed name × IsEnd (InputMissing name)
+  IsCause sink_faults out out_now (InputShort asset size need) = (size < need) × IsEnd (InputShort asset size need)
+  IsCause sink_faults out out_now SourceFault = HasRisen (faults before) (faults now)
+  IsCause sink_faults out out_now SinkFault = HasRisen (sink_faults out) (sink_faults out_now)
+  IsCause sink_faults out out_now NoMemory = ⊤
+  IsCause sink_faults out out_now (BadStream refusal) = IsSome (read_words words) × IsRefusalOf refusal × IsEnd (BadStream refusal)
+  IsCause sink_faults out out_now (InputTooLong size) = IsSome (read_words words) × (greatest_size < size) × IsEnd (InputTooLong size)
+  IsCause sink_faults out out_now StoreFault = ⊥
+  IsCause sink_faults out out_now (BadFrame frame why) = ⊥
+  IsCause sink_faults out out_now Unbuilt = ⊥
