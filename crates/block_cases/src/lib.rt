@@ -1,4 +1,4 @@
-//! Tests of code-blocks: their contexts, the decisions of their bit-planes and their codewords.
+//! Tests of code-blocks: their contexts, the decisions of their bit-planes, their codewords and what is read of these.
 #![tactic(auto)]
 
 #[cfg(test)]
@@ -6,6 +6,10 @@ mod codes;
 #[cfg(test)]
 mod contexts;
 #[cfg(test)]
+mod pictures;
+#[cfg(test)]
 mod planes;
+#[cfg(test)]
+mod reads;
 #[cfg(test)]
 mod steps;

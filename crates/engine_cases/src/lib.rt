@@ -5,3 +5,5 @@
 mod commands;
 #[cfg(test)]
 mod engine;
+#[cfg(test)]
+mod reads;

@@ -6,7 +6,7 @@ use codec_terms::ReadRefusal::{self, After, Head, PartLength};
 use std::alloc::{AllocError, Global};
 use std::process::Abort;
 use std::test::Fail;
-use stream_reader::{Survey, survey_stream};
+use stream_survey::{Survey, survey_stream};
 
 /// A black picture of 32 columns and 32 rows at cut 0: a main header of 143 bytes, three parts of 20, the end marker.
 #[rattlefmt::skip]
@@ -130,7 +130,7 @@ fn tells_what_a_stream_holds(rt: HostRuntime) -> Result<(), Fail> {
     let alloc = rt.alloc();
     for (len, others, front, more, told) in &ROWS {
         let bytes = changed(alloc, *len, *others, *front, *more)?;
-        check(&rt, survey_stream(alloc, &bytes), told);
+        check(&rt, survey_stream(&bytes), told);
     }
     Ok(())
 }
