@@ -16,7 +16,7 @@ uint32_t rattle_md5(const uint8_t *, size_t);
 uint32_t rattle_picture(const uint8_t *, size_t, uint32_t, uint32_t *, size_t, uint32_t *, size_t, uint32_t, uint32_t,
                         uint8_t *, size_t);
 
-enum { RAW = 13271040, ROOM = 1 << 24, CUTS = 721, MOST = 1302083, ROUNDS = 7, TIMES = 10, WALKS = 4 };
+enum { RAW = 13271040, ROOM = 1 << 24, CUTS = 721, MOST = 1302083, ROUNDS = 7, TIMES = 60, WALKS = 12 };
 static uint8_t raw[RAW], bytes[ROOM], made[ROOM];
 static uint32_t up[CUTS], down[CUTS], sum;
 
