@@ -1,32 +1,17 @@
 //! What is told of codestreams, whole, changed and cut.
 
+use crate::damaged::agree;
+use crate::streams::STREAM;
 use codec_terms::HeadRefusal;
 use codec_terms::MarkerRefusal::{Field, Marker, Truncated};
 use codec_terms::ReadRefusal::{self, After, Head, PartLength};
 use std::alloc::{AllocError, Global};
 use std::process::Abort;
 use std::test::Fail;
+use stream_reader::read_stream;
 use stream_survey::{Survey, survey_stream};
 
-/// A black picture of 32 columns and 32 rows at cut 0: a main header of 143 bytes, three parts of 20, the end marker.
-#[rattlefmt::skip]
-const STREAM: [u8; 205] = [
-    0xff, 0x4f, 0xff, 0x51, 0, 0x2f, 0, 3, 0, 0, 0, 0x20, 0, 0, 0, 0x20,
-    0, 0, 0, 0, 0, 0, 0, 0, 0, 0, 0, 0x20, 0, 0, 0, 0x20,
-    0, 0, 0, 0, 0, 0, 0, 0, 0, 3, 0x0b, 1, 1, 0x0b, 1, 1,
-    0x0b, 1, 1, 0xff, 0x52, 0, 0x12, 1, 4, 0, 1, 1, 5, 3, 3, 0,
-    0, 0x77, 0x88, 0x88, 0x88, 0x88, 0x88, 0xff, 0x5c, 0, 0x23, 0x22, 0x70, 0, 0x79, 0,
-    0x79, 0, 0x7a, 0, 0x71, 0, 0x71, 0, 0x72, 0, 0x69, 0, 0x69, 0, 0x6a, 0,
-    0x69, 0, 0x69, 0, 0x6a, 0, 0x61, 0, 0x61, 0, 0x62, 0, 0xff, 0x55, 0, 0x13,
-    0, 0x50, 0, 0, 0, 0, 0x14, 0, 0, 0, 0, 0x14, 0, 0, 0, 0,
-    0x14, 0xff, 0x64, 0, 0x0c, 0, 0, 0x43, 0x55, 0x54, 0x31, 0, 0, 0, 0, 0xff,
-    0x90, 0, 0x0a, 0, 0, 0, 0, 0, 0x14, 0, 3, 0xff, 0x93, 0, 0, 0,
-    0, 0, 0, 0xff, 0x90, 0, 0x0a, 0, 0, 0, 0, 0, 0x14, 1, 3, 0xff,
-    0x93, 0, 0, 0, 0, 0, 0, 0xff, 0x90, 0, 0x0a, 0, 0, 0, 0, 0,
-    0x14, 2, 3, 0xff, 0x93, 0, 0, 0, 0, 0, 0, 0xff, 0xd9,
-];
-
-/// How many of its bytes there are, other bytes at their places, what is put in front of a place, and what is told: the parts'
+/// How many of the stream's bytes there are, other bytes at their places, what is put in front of a place, and what is told: the parts'
 /// lengths and the number of code-blocks, or the refusal.
 type Row = (
     usize,
@@ -131,6 +116,7 @@ fn tells_what_a_stream_holds(rt: HostRuntime) -> Result<(), Fail> {
     for (len, others, front, more, told) in &ROWS {
         let bytes = changed(alloc, *len, *others, *front, *more)?;
         check(&rt, survey_stream(&bytes), told);
+        assert!(&rt; agree(&survey_stream(&bytes), &read_stream(alloc, &bytes)));
     }
     Ok(())
 }
