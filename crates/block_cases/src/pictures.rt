@@ -6,6 +6,7 @@ use band_starts::{band_at, band_start, block_columns_rows, block_start};
 use codec_terms::Shape;
 use mast_base::NoMemory;
 use picture_blocks::{Blocks, CodingRoom};
+use picture_sets::PictureSets;
 use std::alloc::Global;
 use std::test::Fail;
 
@@ -41,8 +42,11 @@ fn plane_counts_with_one(alloc: Global, shape: Shape, at: usize) -> Result<Vec<u
     requires { IsPictureSize shape }
 {
     let words = words_with_one(alloc, shape, at)?;
+    let mut sets = PictureSets::new(alloc, shape)?;
+    sets.fill(&words);
     let mut blocks = Blocks::new(alloc, shape)?;
-    blocks.code_words(&words, &mut CodingRoom::new(alloc))?;
+    blocks.start(&sets);
+    blocks.code_to_cut(&sets, 0, &mut CodingRoom::new(alloc))?;
     plane_counts(alloc, &blocks)
 }
 

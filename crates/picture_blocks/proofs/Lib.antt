@@ -1,4 +1,3 @@
-pub mod Bands
-pub mod Rows
+pub mod Steps
+pub mod Begun
 pub mod Values
-pub mod Starts

@@ -1,11 +1,11 @@
--- The words of a picture's coefficients, and of one sub-band.
-use Rattle.std.proofs.Common.{◌≡◌, ℕ, ◌+◌, ◌*◌, ◌^◌, ◌<◌, ◌≤◌, sym, ap, ap₂, ◌∙◌, subst, arith, List, [], ◌∷◌, ◌++◌, length, take, drop, get_or, All, ℤ, pos, negsuc, unsigned_abs, pow_mono, w32, to_z, of_z}
+-- The words of a picture's coefficients.
+use Rattle.std.proofs.Common.{◌≡◌, ℕ, ◌+◌, ◌*◌, ◌^◌, ◌<◌, ◌≤◌, sym, ap₂, ◌∙◌, subst, arith, List, [], ◌∷◌, ◌++◌, length, take, get_or, All, ℤ, pos, negsuc, unsigned_abs, pow_mono, w32, to_z, of_z}
 use Rattle.std.proofs.lemmas.Int.{ints}
-use Rattle.std.proofs.lemmas.List.{take-map, drop-map, map-append, take_more}
+use Rattle.std.proofs.lemmas.List.{map-append, take_more}
 use Rattle.std.proofs.lemmas.List.Elements.{All-weaker}
 use Rattle.codec_terms.specs.declared.picture.Shape.{Shape}
 use Rattle.codec_terms.specs.declared.picture.Band.{Band}
-use Rattle.codec_terms.specs.Bands.{band_length, band_start, band_values, plane_limit, all_bands}
+use Rattle.codec_terms.specs.Bands.{band_values, plane_limit, all_bands}
 use Rattle.codec_terms.proofs.CoefficientLaws.{flat_map-band_values}
 use Rattle.codec_laws.specs.Bounds.{FitsBand, FitBands}
 use Rattle.codec_laws.proofs.Lists.{All-flat_map}
@@ -36,12 +36,3 @@ pub word_more : (values : List ℤ) (words : List ℕ) (i word : ℕ) → signed
 word_more values words i word done inside is =
     map-append signed_value words (word ∷ [])
     ∙ (ap₂ (λ (xs : List ℤ) (x : ℤ). xs ++ x ∷ []) done is ∙ sym (take_more values i (pos 0) inside))
-
--- the words of one sub-band
-pub band_words : (shape : Shape) (band : Band) (words : List ℕ) (start long : ℕ) → start ≡ band_start shape band → long ≡ band_length shape band
-    → signed_values (take long (drop start words)) ≡ band_values shape (signed_values words) band
-unfolding band_values
-band_words shape band words start long e p =
-    ap₂ (λ (n m : ℕ). signed_values (take n (drop m words))) p e
-    ∙ (sym (take-map signed_value (band_length shape band) (drop (band_start shape band) words))
-    ∙ ap (take (band_length shape band)) (sym (drop-map signed_value (band_start shape band) words)))

@@ -1,26 +1,24 @@
-ghost use Rattle.std.specs.Prelude.{◌≡◌, ◌*◌, ◌<◌, IfOk, OnOk, length, slice_index};
-ghost use Rattle.codec_terms.specs.declared.picture.Band.{Band};
-ghost use Rattle.codec_terms.specs.Bands.{band_place};
+ghost use Rattle.std.specs.Prelude.{◌≡◌, ◌*◌, ◌<◌, ◌≤◌, ℤ, List, IfOk, OnOk, length};
 ghost use Rattle.codec_terms.specs.Precincts.{block_columns, block_rows};
 ghost use Rattle.codec_laws.specs.Bounds.{IsPictureSize, FitBands};
-ghost use Rattle.quantiser.specs.Signed.{signed_values};
 ghost use Rattle.band_starts.specs.Places.{IsPictureBand};
-ghost use Rattle.band_starts.specs.Blocks.{block_start, all_block_count};
-ghost use Rattle.picture_blocks.specs.Blocks.{block_at, AreBlocksOf, AreCodedAt};
+ghost use Rattle.picture_sets.specs.Sets.{AreSetsOfPicture};
+ghost use Rattle.picture_blocks.specs.Blocks.{block_at, AreBlocksOf, AreCodedAt, IsBandCoded, IsFurther};
 
-use crate::coding::{CodingRoom, code_bands};
+use crate::coding::{CodingRoom, code_blocks};
+use crate::starting::start_bands;
 use crate::words::words_of;
-use band_starts::{
-    band_at, band_place, block_columns_rows, block_laws, block_start, block_total, place_laws,
-};
+use band_starts::{band_at, band_place, block_columns_rows, block_laws, block_total, place_laws};
 use block_coder::PartlyCoded;
 use codec_terms::{Band, Shape};
+use cut_planes::lowest_plane;
 use mast_base::NoMemory;
+use picture_sets::{PictureSets, block_starts};
 use std::alloc::Global;
 use std::marker::Model;
 
-/// The code-blocks of a picture, each coded down to some bit-plane. Those of another picture of the same size may be
-/// coded in their memory.
+/// The code-blocks of a picture, each coded down to some bit-plane, from which the coding can go on. Those of another
+/// picture of the same size may be started in their memory.
 #[derive(Debug, Drop)]
 pub struct Blocks {
     shape: Shape,
@@ -38,18 +36,6 @@ impl Model for Blocks {
     ghost view = { λ blocks. record { shape = blocks.shape; blocks = blocks.blocks.items } };
 
     ghost invariant = { IsSound };
-}
-
-// Where the code-blocks of each sub-band begin among all of a picture.
-fn block_starts(shape: Shape) -> [u32; 48]
-    ensures { (band : Band) → IsPictureBand band → slice_index result (band_place band) ≡ block_start shape band }
-{
-    place_laws();
-    let mut starts = [0u32; 48];
-    for place in 0..48usize {
-        starts[place] = block_start(shape, band_at(place)) as u32;
-    }
-    starts
 }
 
 // A code-block for each place of a picture, none of which is begun.
@@ -88,21 +74,69 @@ impl Blocks {
         ensures coded { IfOk result (λ blocks. AreCodedAt quantised.now 0 blocks) }
     {
         let words = words_of(alloc, quantised)?;
+        let mut sets = PictureSets::new(alloc, shape)?;
+        sets.fill(&words);
         let mut blocks = Blocks::new(alloc, shape)?;
-        blocks.code_words(&words, &mut CodingRoom::new(alloc))?;
+        blocks.start(&sets);
+        blocks.code_to_cut(&sets, 0, &mut CodingRoom::new(alloc))?;
         Ok(blocks)
     }
 
-    /// Codes in their place the code-blocks of a picture that has these words, of all sub-bands in turn, each down to its
-    /// lowest bit-plane. `room` is lent for the call.
-    pub fn code_words(&mut self, words: &[u16], room: &mut CodingRoom) -> Result<(), NoMemory>
-        requires { length words.now ≡ 3 * (self.old.shape.width * self.old.shape.height) }
+    /// Begins all code-blocks of a picture in the place of those that are here. None of them is coded.
+    pub fn start(&mut self, sets: &PictureSets)
+        requires shape { sets.now.shape ≡ self.old.shape }
+        requires of { (q : List ℤ) × AreSetsOfPicture q sets.now }
         ensures shape { self.new.shape ≡ self.old.shape }
-        ensures blocks { OnOk result (AreBlocksOf (signed_values words.now) self.new) }
-        ensures coded { OnOk result (AreCodedAt (signed_values words.now) 0 self.new) }
+        ensures blocks { (q : List ℤ) → AreSetsOfPicture q sets.now → AreBlocksOf q self.new }
+        ensures coded { (q : List ℤ) → AreSetsOfPicture q sets.now → AreCodedAt q 720 self.new }
     {
-        let shape = self.shape;
-        code_bands(&mut self.blocks, shape, words, room)
+        block_laws();
+        start_bands(&mut self.blocks, sets, &self.starts);
+    }
+
+    /// Codes the code-blocks of a sub-band down to bit-plane `lowest`. Those that are coded further stay as they are.
+    /// After `NoMemory` some are coded, and the call may be made again. `room` is lent for the call.
+    pub fn code_band(
+        &mut self,
+        sets: &PictureSets,
+        band: Band,
+        lowest: u32,
+        room: &mut CodingRoom,
+    ) -> Result<(), NoMemory>
+        requires shape { sets.now.shape ≡ self.old.shape }
+        requires picture { IsPictureBand band }
+        requires of { (q : List ℤ) × (AreSetsOfPicture q sets.now × AreBlocksOf q self.old) }
+        ensures shape { self.new.shape ≡ self.old.shape }
+        ensures blocks { (q : List ℤ) → AreSetsOfPicture q sets.now → AreBlocksOf q self.old → AreBlocksOf q self.new }
+        ensures further { IsFurther self.old self.new }
+        ensures coded { OnOk result ((q : List ℤ) → AreSetsOfPicture q sets.now → AreBlocksOf q self.old
+            → IsBandCoded q band lowest self.new) }
+    {
+        let first = self.starts[band_place(band)] as usize;
+        code_blocks(&mut self.blocks, first, sets, band, lowest, room)
+    }
+
+    /// The same of all sub-bands in turn, each down to its lowest bit-plane that the cut keeps.
+    pub fn code_to_cut(
+        &mut self,
+        sets: &PictureSets,
+        cut: u32,
+        room: &mut CodingRoom,
+    ) -> Result<(), NoMemory>
+        requires cut { cut ≤ 720 }
+        requires shape { sets.now.shape ≡ self.old.shape }
+        requires of { (q : List ℤ) × (AreSetsOfPicture q sets.now × AreBlocksOf q self.old) }
+        ensures shape { self.new.shape ≡ self.old.shape }
+        ensures blocks { (q : List ℤ) → AreSetsOfPicture q sets.now → AreBlocksOf q self.old → AreBlocksOf q self.new }
+        ensures coded { OnOk result ((q : List ℤ) → AreSetsOfPicture q sets.now → AreBlocksOf q self.old
+            → AreCodedAt q cut self.new) }
+    {
+        place_laws();
+        for place in 0..48usize {
+            let band = band_at(place);
+            self.code_band(sets, band, lowest_plane(cut, band), room)?;
+        }
+        Ok(())
     }
 
     /// The size of the picture.

@@ -1,25 +1,27 @@
-ghost use Rattle.std.specs.Prelude.{◌≡◌, ◌+◌, ◌*◌, ◌/◌, ◌%◌, ◌<◌, ◌≤◌, ℕ, OnOk, length};
-ghost use Rattle.codec_terms.specs.declared.picture.Band.{Band};
-ghost use Rattle.codec_terms.specs.Bands.{band_length};
+ghost use Rattle.std.specs.Prelude.{◌≡◌, ◌-◌, ◌*◌, ◌<◌, ◌≤◌, ℤ, List, OnOk, length};
+ghost use Rattle.codec_terms.specs.BlockDecisions.{plane_count};
 ghost use Rattle.codec_terms.specs.Precincts.{block_columns, block_rows};
-ghost use Rattle.quantiser.specs.Signed.{signed_values};
+ghost use Rattle.block_sets.specs.Rebuilt.{block_of};
+ghost use Rattle.block_coder.specs.Blocks.{IsBlock};
+ghost use Rattle.block_coder.specs.Codes.{IsPartOfCode};
 ghost use Rattle.band_starts.specs.Places.{IsPictureBand};
-ghost use Rattle.band_starts.specs.Blocks.{block_count, block_start, block_place, all_block_count};
-ghost use Rattle.picture_blocks.specs.Blocks.{block_in, picture_block, slot, IsCodedTo};
+ghost use Rattle.band_starts.specs.Blocks.{block_start, block_place, all_block_count};
+ghost use Rattle.picture_sets.specs.Sets.{picture_block, AreSetsOfPicture};
+ghost use Rattle.picture_blocks.specs.Blocks.{of_picture, slot, AreBlocksOf, IsBandCoded, IsFurther};
 
-use crate::sets::{SetRoom, block_in};
-use band_starts::{band_at, band_length, band_start, block_columns_rows, block_start};
+use band_starts::{block_columns_rows, block_laws};
 use block_coder::PartlyCoded;
 use block_passes::PassState;
-use codec_terms::{Band, Shape};
+use block_sets::BlockPlanes;
+use codec_terms::Band;
 use mast_base::NoMemory;
 use mq_coder::Coder;
+use picture_sets::PictureSets;
 use std::alloc::Global;
 
 /// Room that is lent to the coding of code-blocks.
 #[derive(Debug, Drop)]
 pub struct CodingRoom {
-    sets: SetRoom,
     state: PassState,
     coder: Coder,
 }
@@ -28,90 +30,88 @@ impl CodingRoom {
     /// Room for any picture.
     pub fn new(alloc: Global) -> Self {
         CodingRoom {
-            sets: SetRoom::new(),
             state: PassState::new(),
             coder: Coder::new(alloc),
         }
     }
 }
 
-// Begins the code-block in column x and row y of a sub-band that has these words, and codes it down to its bit-plane
-// `lowest`.
-fn code_block_at(
+// Codes a code-block down to bit-plane `lowest`. One that is coded further stays as it is.
+fn code_further(
     block: &mut PartlyCoded,
-    shape: Shape,
+    planes: &BlockPlanes<'_>,
+    lowest: u32,
+    room: &mut CodingRoom,
+) -> Result<(), NoMemory>
+    requires planes { IsBlock planes.now }
+    requires of { IsPartOfCode (block_of planes.now) block.old }
+    ensures of { IsPartOfCode (block_of planes.now) block.new }
+    ensures further { length block.old.endings ≤ length block.new.endings }
+    ensures coded { OnOk result (plane_count (block_of planes.now) - lowest ≤ length block.new.endings) }
+{
+    block.code_down_to(planes, lowest, &mut room.state, &mut room.coder)
+}
+
+// The same of the code-block in column x and row y of a sub-band, at its place among all of the picture.
+fn code_block(
+    blocks: &mut [PartlyCoded],
+    place: usize,
+    sets: &PictureSets,
     band: Band,
-    words: &[u16],
     x: u32,
     y: u32,
     lowest: u32,
     room: &mut CodingRoom,
 ) -> Result<(), NoMemory>
     requires picture { IsPictureBand band }
-    requires whole { length words.now ≡ band_length shape band }
-    requires column { x < block_columns shape band }
-    requires row { y < block_rows shape band }
-    ensures { OnOk result (IsCodedTo lowest (block_in shape band words.now x y) block.new) }
+    requires column { x < block_columns sets.now.shape band }
+    requires row { y < block_rows sets.now.shape band }
+    requires there { length blocks.old ≡ all_block_count sets.now.shape }
+    requires place { place ≡ block_place sets.now.shape band x y }
+    requires of { (q : List ℤ) × (AreSetsOfPicture q sets.now × AreBlocksOf q (of_picture sets.now.shape blocks.old)) }
+    ensures blocks { (q : List ℤ) → AreSetsOfPicture q sets.now → AreBlocksOf q (of_picture sets.now.shape blocks.old)
+        → AreBlocksOf q (of_picture sets.now.shape blocks.new) }
+    ensures further { IsFurther (of_picture sets.now.shape blocks.old) (of_picture sets.now.shape blocks.new) }
+    ensures coded { OnOk result ((q : List ℤ) → AreSetsOfPicture q sets.now
+        → plane_count (picture_block sets.now.shape q band x y) - lowest ≤ length (slot blocks.new place).endings) }
 {
-    let planes = block_in(shape, band, words, x, y, &mut room.sets);
-    block.start(&planes);
-    block.code_down_to(&planes, lowest, &mut room.state, &mut room.coder)
+    block_laws();
+    let planes = sets.at(band, x, y);
+    code_further(&mut blocks[place], &planes, lowest, room)
 }
 
-// The same of all code-blocks of a sub-band, where all of the picture's are given. Those of the sub-bands before it are
-// left as they are.
-fn code_band(
+/// Codes the code-blocks of a sub-band, which begin at `first`, down to bit-plane `lowest`.
+pub(crate) fn code_blocks(
     blocks: &mut [PartlyCoded],
-    shape: Shape,
+    first: usize,
+    sets: &PictureSets,
     band: Band,
-    words: &[u16],
     lowest: u32,
     room: &mut CodingRoom,
 ) -> Result<(), NoMemory>
     requires picture { IsPictureBand band }
-    requires whole { length words.now ≡ band_length shape band }
-    requires there { block_start shape band + block_count shape band ≤ length blocks.old }
-    ensures coded { OnOk result ((n : ℕ) → n < block_count shape band → IsCodedTo lowest
-        (block_in shape band words.now (n % block_columns shape band) (n / block_columns shape band))
-        (slot blocks.new (block_start shape band + n))) }
-    ensures before { (n : ℕ) → n < block_start shape band → slot blocks.new n ≡ slot blocks.old n }
+    requires there { length blocks.old ≡ all_block_count sets.now.shape }
+    requires first { first ≡ block_start sets.now.shape band }
+    requires of { (q : List ℤ) × (AreSetsOfPicture q sets.now × AreBlocksOf q (of_picture sets.now.shape blocks.old)) }
+    ensures blocks { (q : List ℤ) → AreSetsOfPicture q sets.now → AreBlocksOf q (of_picture sets.now.shape blocks.old)
+        → AreBlocksOf q (of_picture sets.now.shape blocks.new) }
+    ensures further { IsFurther (of_picture sets.now.shape blocks.old) (of_picture sets.now.shape blocks.new) }
+    ensures coded { OnOk result ((q : List ℤ) → AreSetsOfPicture q sets.now
+        → IsBandCoded q band lowest (of_picture sets.now.shape blocks.new)) }
 {
-    let (columns, rows) = block_columns_rows(shape, band);
-    let first = block_start(shape, band);
+    let (columns, rows) = block_columns_rows(sets.shape(), band);
     for n in 0..columns * rows {
-        let block = &mut blocks[first + n as usize];
-        code_block_at(
-            block,
-            shape,
+        let place = first + n as usize;
+        code_block(
+            blocks,
+            place,
+            sets,
             band,
-            words,
             n % columns,
             n / columns,
             lowest,
             room,
         )?;
-    }
-    Ok(())
-}
-
-/// Begins all code-blocks of a picture that has these words, and codes them down to their lowest bit-planes.
-pub(crate) fn code_bands(
-    blocks: &mut [PartlyCoded],
-    shape: Shape,
-    words: &[u16],
-    room: &mut CodingRoom,
-) -> Result<(), NoMemory>
-    requires blocks { length blocks.old ≡ all_block_count shape }
-    requires words { length words.now ≡ 3 * (shape.width * shape.height) }
-    ensures { OnOk result ((band : Band) (x y : ℕ) → IsPictureBand band
-        → x < block_columns shape band → y < block_rows shape band → IsCodedTo 0
-        (picture_block shape (signed_values words.now) band x y) (slot blocks.new (block_place shape band x y))) }
-{
-    for place in 0..48usize {
-        let band = band_at(place);
-        let start = band_start(shape, band);
-        let of_band = &words[start..start + band_length(shape, band)];
-        code_band(blocks, shape, band, of_band, 0, room)?;
     }
     Ok(())
 }

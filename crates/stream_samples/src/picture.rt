@@ -7,6 +7,7 @@ use codec_terms::Shape;
 use mast_base::NoMemory;
 use picture_bands::PictureBands;
 use picture_blocks::{Blocks, CodingRoom};
+use picture_sets::PictureSets;
 use sample_pictures::{Scene, raw_picture};
 use std::alloc::Global;
 
@@ -26,7 +27,10 @@ pub(crate) fn coded_picture(
     let raw = raw_picture(alloc, scene, shape)?;
     let mut bands = PictureBands::new(alloc, shape, power)?;
     bands.transform(&raw);
+    let mut sets = PictureSets::new(alloc, shape)?;
+    sets.fill(bands.words());
     let mut blocks = Blocks::new(alloc, shape)?;
-    blocks.code_words(bands.words(), &mut CodingRoom::new(alloc))?;
+    blocks.start(&sets);
+    blocks.code_to_cut(&sets, 0, &mut CodingRoom::new(alloc))?;
     Ok(blocks)
 }

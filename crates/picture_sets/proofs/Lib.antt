@@ -1,0 +1,4 @@
+pub mod Bands
+pub mod Rows
+pub mod Words
+pub mod Counts
