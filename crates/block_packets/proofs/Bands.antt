@@ -14,7 +14,7 @@ use Rattle.codec_terms.specs.Codestream.{not_included, packet_block, packet_band
 use Rattle.codec_laws.proofs.BlockPlaces.{length-packet_band, get_or-packet_band}
 use Rattle.packet_size.specs.declared.sizes.BlockSize.{BlockSize}
 use Rattle.packet_size.specs.Sizes.{IsSizeOf, AreBlockSizes}
-use Rattle.picture_blocks.specs.Blocks.{picture_block}
+use Rattle.picture_sets.specs.Sets.{picture_block}
 use Rattle.block_packets.specs.Sized.{absent, AreSizesUpTo}
 use Rattle.block_packets.proofs.Areas.{row-below, column-below}
 

@@ -17,7 +17,8 @@ use Rattle.codec_laws.proofs.Planes.{plane_limit-small, plane_count-block_of}
 use Rattle.block_coder.specs.Codes.{Progress, IsPartOfCode, lowest_of}
 use Rattle.band_starts.specs.Places.{IsPictureBand}
 use Rattle.band_starts.proofs.Members.{All-all_bands}
-use Rattle.picture_blocks.specs.Blocks.{PictureBlocks, picture_block, block_at}
+use Rattle.picture_sets.specs.Sets.{picture_block}
+use Rattle.picture_blocks.specs.Blocks.{PictureBlocks, block_at}
 use Rattle.block_packets.specs.Coded.{most_bytes, IsCodedFor, AreCodedBlocks}
 
 -- ---- the values of a code-block

@@ -3,3 +3,5 @@ pub mod Included
 pub mod Areas
 pub mod Bands
 pub mod Writable
+pub mod ChangedPlace
+pub mod LeastSums

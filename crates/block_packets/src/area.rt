@@ -6,7 +6,7 @@ ghost use Rattle.codec_laws.specs.Bounds.{IsPictureSize};
 ghost use Rattle.band_laws.specs.Places.{precinct_count};
 ghost use Rattle.band_map.specs.Blocks.{area_of};
 ghost use Rattle.band_starts.specs.Places.{IsPictureBand};
-ghost use Rattle.picture_blocks.specs.Blocks.{picture_block};
+ghost use Rattle.picture_sets.specs.Sets.{picture_block};
 ghost use Rattle.block_packets.specs.Coded.{IsArea, IsCodedFor, AreCodedBlocks};
 
 use band_map::{BlockGrid, blocks_of};

@@ -6,9 +6,9 @@ ghost use Rattle.codec_terms.specs.Passes.{pass_count};
 ghost use Rattle.packet_size.specs.Sizes.{HasPassCode, IsSizeOf};
 ghost use Rattle.block_packets.specs.Coded.{IsCodedFor, most_bytes};
 
-use crate::planes::{lowest_plane, plane_limit};
 use block_coder::PartlyCoded;
 use codec_terms::{Band, PacketBlock};
+use cut_planes::{lowest_plane, plane_limit};
 use mast_base::{Bytes, NoMemory};
 use packet_size::BlockSize;
 use std::alloc::Global;

@@ -1,14 +1,16 @@
-//! Packets (ITU-T T.800, B.9 and B.10, with one layer) of code-blocks that are coded, and their lengths without their
-//! bytes.
+//! Packets (ITU-T T.800, B.9 and B.10, with one layer) of code-blocks that are coded, their lengths without their bytes,
+//! and the least that they can be long at lower cuts.
 #![tactic(auto)]
 
 mod area;
 mod block;
+mod changes;
+mod floor;
 mod length;
-mod planes;
 mod push;
 mod sizes;
 
+pub use changes::{place_changed, precinct_count};
+pub use floor::packet_floor;
 pub use length::packet_length;
-pub use planes::{lowest_plane, plane_limit, rank};
 pub use push::push_packet;

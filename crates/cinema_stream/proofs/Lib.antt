@@ -1,4 +1,3 @@
 pub mod Resolutions
 pub mod PartSums
 pub mod Written
-pub mod ChangedPlace

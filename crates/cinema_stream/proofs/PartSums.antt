@@ -7,8 +7,9 @@ use Rattle.codec_terms.specs.Codestream.{part_length}
 use Rattle.codec_laws.specs.Bounds.{IsPictureSize, FitBands}
 use Rattle.codec_laws.proofs.Cuts.{length-stream}
 use Rattle.cut_laws.proofs.Lengths.{part-bound}
+use Rattle.block_packets.specs.Changes.{place_changed}
 use Rattle.cinema_stream.specs.declared.sizes.Sizes.{Sizes}
-use Rattle.cinema_stream.specs.Lengths.{resolution_length, HasLengths, part_of, place_changed, AreNext}
+use Rattle.cinema_stream.specs.Lengths.{resolution_length, HasLengths, part_of, AreNext}
 use Rattle.cinema_stream.specs.Sizes.{AreSizesOf}
 use Rattle.cinema_stream.proofs.Resolutions.{part-by_resolution, six-terms, resolution-same}
 

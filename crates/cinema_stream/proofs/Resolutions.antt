@@ -1,20 +1,19 @@
 -- The lengths of the packets of a component's resolutions: their sum, their bounds, and which change from cut to cut.
-use Rattle.std.proofs.Common.{◌≡◌, ◌≢◌, ℕ, zero, suc, ◌+◌, ◌*◌, ◌^◌, ◌<◌, ◌≤◌, refl, sym, ap, ap₂, ◌∙◌, inl, inr, arith, Bool, false, List, [], ◌∷◌, length, map, sum_by, ℤ}
-use Rattle.std.specs.Prelude.{◌==◌, ◌&&◌}
+use Rattle.std.proofs.Common.{◌≡◌, ◌≢◌, ℕ, zero, suc, ◌+◌, ◌*◌, ◌^◌, ◌<◌, ◌≤◌, refl, sym, ap, ◌∙◌, arith, List, [], ◌∷◌, length, map, sum_by, ℤ}
 use Rattle.std.specs.List.{flat_map, range_with_len}
-use Rattle.std.proofs.lemmas.Bool.Decides.{eqb_tells}
 use Rattle.std.proofs.lemmas.List.Sums.{sum_by-cons, sum_by-append}
 use Rattle.codec_terms.specs.declared.picture.Shape.{Shape}
-use Rattle.codec_terms.specs.Precincts.{Precinct, precinct_at, precinct_columns, resolution, resolution_precincts}
+use Rattle.codec_terms.specs.Precincts.{Precinct, precinct_at, precinct_columns, resolution_precincts}
 use Rattle.codec_terms.specs.Codestream.{precinct_packet, part_length}
 use Rattle.codec_terms.proofs.OrderLaws.{sum_by-packet_order}
 use Rattle.codec_laws.specs.Bounds.{IsPictureSize, FitBands}
 use Rattle.codec_laws.proofs.Lists.{All-each, sum_by-same}
 use Rattle.band_laws.specs.Places.{precinct_count}
-use Rattle.cut_laws.specs.Ranks.{band_changed}
 use Rattle.cut_laws.proofs.Changes.{packet-same}
 use Rattle.cut_laws.proofs.Lengths.{packets-sum, part-bound}
-use Rattle.cinema_stream.specs.Lengths.{packet_of, resolution_length, place_changed}
+use Rattle.block_packets.specs.Changes.{place_changed}
+use Rattle.block_packets.proofs.ChangedPlace.{changes-not}
+use Rattle.cinema_stream.specs.Lengths.{packet_of, resolution_length}
 
 -- ---- sums over lists that are made of others
 
@@ -106,21 +105,11 @@ first-within shape q cut component r n few = range-within (λ number. length (pa
 
 -- ---- from a cut to the next one
 
-not_both : (a b c d : ℕ) → 6 * a + b ≢ 6 * c + d → (a == c && b == d) ≡ false
-not_both a b c d other =
-    elim (eqb_tells a c) [
-      | inl (e, same) ↦ elim (eqb_tells b d) [
-        | inl (g, alike) ↦ absurd (other (omega arith))
-        | inr (g, apart) ↦ ap₂ (λ (s t : Bool). s && t) e g
-      ]
-      | inr (e, apart) ↦ ap (λ (s : Bool). s && (b == d)) e
-    ]
-
 pub resolution-same : (shape : Shape) (q : List ℤ) (cut component r : ℕ) → component < 3 → r < 6 → 6 * component + r ≢ place_changed cut
     → resolution_length shape q (suc cut) component r ≡ resolution_length shape q cut component r
-unfolding resolution_length place_changed
+unfolding resolution_length
 resolution-same shape q cut component r inside small other =
     sum_by-each (λ number. length (packet_of shape q (suc cut) component r number)) (λ number. length (packet_of shape q cut component r number))
     (λ number. let p : Precinct = record { resolution = r; number = number; x = 0; y = 0 } in
-    ap length (packet-same shape q cut component p inside small (not_both component r (band_changed cut).component (resolution (band_changed cut)) other)))
+    ap length (packet-same shape q cut component p inside small (changes-not cut component r other)))
     (range_with_len 0 (precinct_count shape r))

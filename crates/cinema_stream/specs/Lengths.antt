@@ -3,11 +3,9 @@ use Rattle.std.specs.Prelude.{◌≡◌, ◌<◌, ◌⊎◌, ℕ, suc, ◌+◌, 
 use Rattle.std.specs.List.{range_with_len}
 use Rattle.codec_terms.specs.declared.picture.Shape.{Shape}
 use Rattle.codec_terms.specs.Bands.{resolution_bands}
-use Rattle.codec_terms.specs.Precincts.{resolution}
 use Rattle.codec_terms.specs.PacketHeader.{packet}
 use Rattle.codec_terms.specs.Codestream.{packet_band}
 use Rattle.band_laws.specs.Places.{precinct_count}
-use Rattle.cut_laws.specs.Ranks.{band_changed}
 
 -- the packet of a component's precinct, by its resolution and its number there
 abbrev pub packet_of : Shape → List ℤ → ℕ → ℕ → ℕ → ℕ → List ℕ
@@ -30,10 +28,6 @@ part_of packets component =
     14 + slice_index packets (6 * component) + slice_index packets (6 * component + 1)
     + slice_index packets (6 * component + 2) + slice_index packets (6 * component + 3)
     + slice_index packets (6 * component + 4) + slice_index packets (6 * component + 5)
-
--- the place that changes from a cut to the next one
-unfoldable pub place_changed : ℕ → ℕ
-place_changed cut = 6 * (band_changed cut).component + resolution (band_changed cut)
 
 -- two cuts next to one another, of which this is the lower one
 abbrev pub AreNext : ℕ → ℕ → ℕ → Type 0

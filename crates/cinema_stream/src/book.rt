@@ -6,8 +6,9 @@ ghost use Rattle.cinema_stream.specs.Lengths.{HasLengths, AreNext};
 ghost use Rattle.cinema_stream.specs.Sizes.{AreSizesOf};
 ghost use Rattle.cinema_stream.specs.Books.{IsBookOf};
 
-use crate::lengths::{place_changed, resolution_length};
+use crate::lengths::resolution_length;
 use crate::sizes::{Sizes, sizes_of};
+use block_packets::place_changed;
 use codec_terms::Shape;
 use picture_blocks::Blocks;
 

@@ -1,24 +1,12 @@
-ghost use Rattle.std.specs.Prelude.{◌≡◌, ◌<◌, ◌+◌, ◌*◌, ℤ, List};
-ghost use Rattle.codec_terms.specs.Precincts.{resolution};
+ghost use Rattle.std.specs.Prelude.{◌≡◌, ◌<◌, ℤ, List};
 ghost use Rattle.codec_laws.specs.Bounds.{IsPictureSize};
-ghost use Rattle.band_laws.specs.Places.{precinct_count};
 ghost use Rattle.block_packets.specs.Coded.{AreCodedBlocks};
-ghost use Rattle.cut_laws.specs.Ranks.{band_changed};
-ghost use Rattle.cinema_stream.specs.Lengths.{resolution_length, place_changed};
+ghost use Rattle.cinema_stream.specs.Lengths.{resolution_length};
 
-use band_map::precincts;
-use block_packets::packet_length;
+use block_packets::{packet_length, precinct_count};
 use codec_terms::Shape;
 use packet_places::PrecinctAt;
 use picture_blocks::Blocks;
-
-// How many precincts a resolution has.
-fn precincts_of(shape: Shape, resolution: u8) -> u32
-    ensures { result ≡ precinct_count shape resolution }
-{
-    let (columns, rows) = precincts(shape, resolution);
-    columns * rows
-}
 
 /// How long the packets of one resolution of a component are together.
 pub(crate) fn resolution_length(
@@ -37,7 +25,7 @@ pub(crate) fn resolution_length(
         → result ≡ resolution_length blocks.now.shape q cut component resolution }
 {
     let mut length = 0;
-    for number in 0..precincts_of(shape, resolution) {
+    for number in 0..precinct_count(shape, resolution) {
         let precinct = PrecinctAt {
             component,
             resolution,
@@ -46,16 +34,4 @@ pub(crate) fn resolution_length(
         length += packet_length(blocks, precinct, cut);
     }
     length
-}
-
-/// The place, six for each component, of the resolution whose packets change from a cut to the next one: that of the one
-/// sub-band of which a bit-plane more is left out.
-pub(crate) fn place_changed(cut: u32) -> u8
-    ensures place { result ≡ place_changed cut }
-    ensures inside { result < 18 }
-{
-    let rank = cut % 48;
-    let component = (rank + 1) % 3;
-    let resolution = if rank < 45 { 5 - rank / 9 } else { 0 };
-    (6 * component + resolution) as u8
 }

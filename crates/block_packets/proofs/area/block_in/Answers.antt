@@ -1,6 +1,6 @@
 use Rattle.std.proofs.Common.{◌+◌, ◌/◌, ◌%◌, ◌<◌, subst, sym, arith}
 use Rattle.codec_terms.specs.Bands.{lowest_plane}
-use Rattle.picture_blocks.specs.Blocks.{picture_block}
+use Rattle.picture_sets.specs.Sets.{picture_block}
 use Rattle.block_packets.specs.Coded.{IsCodedFor}
 use Rattle.block_packets.proofs.Areas.{row-below, column-below}
 use Rattle.block_packets.proofs.Codes.{coded-block}

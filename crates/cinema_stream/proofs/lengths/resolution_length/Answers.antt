@@ -23,8 +23,8 @@ overflow_add-length c =
     let coded = c.requires.coded.1 in
     let size : IsPictureSize c.args.blocks.now.shape = subst IsPictureSize c.requires.shape c.requires.size in
     let shape = c.args.blocks.now.shape in
-    let count : c.precincts_of-number-end.result ≡ precinct_count shape c.args.resolution =
-    c.precincts_of-number-end.ensures ∙ ap (λ (s : Shape). precinct_count s c.args.resolution) c.requires.shape in
+    let count : c.precinct_count-number-end.result ≡ precinct_count shape c.args.resolution =
+    c.precinct_count-number-end.ensures ∙ ap (λ (s : Shape). precinct_count s c.args.resolution) c.requires.shape in
     omega (
       arith,
       c.loop-number.invariant q coded,
@@ -37,8 +37,8 @@ overflow_add-length c =
 pub returns : goal.returns
 returns c = λ q coded.
     let shape = c.args.blocks.now.shape in
-    let count : c.precincts_of-number-end.result ≡ precinct_count shape c.args.resolution =
-    c.precincts_of-number-end.ensures ∙ ap (λ (s : Shape). precinct_count s c.args.resolution) c.requires.shape in
+    let count : c.precinct_count-number-end.result ≡ precinct_count shape c.args.resolution =
+    c.precinct_count-number-end.ensures ∙ ap (λ (s : Shape). precinct_count s c.args.resolution) c.requires.shape in
     let end : c.loop-number.number ≡ precinct_count shape c.args.resolution = omega arith in
     c.loop-number.invariant q coded
     ∙ ap (λ (n : ℕ). first_length shape q c.args.cut c.args.component c.args.resolution n) end

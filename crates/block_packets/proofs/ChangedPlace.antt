@@ -1,13 +1,14 @@
 -- The place that changes from a cut to the next one, by the rank of the sub-band.
-use Rattle.std.proofs.Common.{◌≡◌, ℕ, zero, suc, ◌+◌, ◌-◌, ◌*◌, ◌/◌, ◌%◌, ◌<◌, ◌≤◌, refl, arith}
-use Rattle.std.specs.Prelude.{nat_lt}
+use Rattle.std.proofs.Common.{◌≡◌, ◌≢◌, ℕ, zero, suc, ◌+◌, ◌-◌, ◌*◌, ◌/◌, ◌%◌, ◌<◌, ◌≤◌, refl, ap, ap₂, inl, inr, arith, Bool, false}
+use Rattle.std.specs.Prelude.{nat_lt, ◌==◌, ◌&&◌}
 use Rattle.std.proofs.lemmas.Bool.{cond_both, ltb-true, ltb-false}
+use Rattle.std.proofs.lemmas.Bool.Decides.{eqb_tells}
 use Rattle.codec_terms.specs.declared.picture.Band.{Band}
 use Rattle.codec_terms.specs.declared.picture.BandKind.TheVariants.{LL}
 use Rattle.codec_terms.specs.Bands.{band_of}
 use Rattle.codec_terms.specs.Precincts.{resolution, resolution_of_kind}
-use Rattle.cut_laws.specs.Ranks.{high_kind}
-use Rattle.cinema_stream.specs.Lengths.{place_changed}
+use Rattle.cut_laws.specs.Ranks.{high_kind, band_changed, is_changed}
+use Rattle.block_packets.specs.Changes.{place_changed}
 
 high-resolution : (k l : ℕ) → resolution_of_kind (high_kind k) l ≡ 6 - l
 high-resolution zero l = refl
@@ -31,3 +32,20 @@ changed-low cut rank is above =
     (λ (b : Band). 6 * ((rank + 1) % 3) + 0 ≡ 6 * b.component + resolution b)
     (λ e. absurd (omega (arith, ltb-true n 45 e)))
     (λ e. omega arith)
+
+-- ---- the other places
+
+not_both : (a b c d : ℕ) → 6 * a + b ≢ 6 * c + d → (a == c && b == d) ≡ false
+not_both a b c d other =
+    elim (eqb_tells a c) [
+      | inl (e, same) ↦ elim (eqb_tells b d) [
+        | inl (g, alike) ↦ absurd (other (omega arith))
+        | inr (g, apart) ↦ ap₂ (λ (s t : Bool). s && t) e g
+      ]
+      | inr (e, apart) ↦ ap (λ (s : Bool). s && (b == d)) e
+    ]
+
+-- the packets at another place stay as they are
+pub changes-not : (cut component r : ℕ) → 6 * component + r ≢ place_changed cut → is_changed cut component r ≡ false
+unfolding place_changed
+changes-not cut component r other = not_both component r (band_changed cut).component (resolution (band_changed cut)) other

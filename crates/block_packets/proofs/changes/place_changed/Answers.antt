@@ -1,7 +1,7 @@
 use Rattle.std.proofs.Common.{◌∙◌, ℕ, ◌+◌, ◌*◌, ◌%◌, refl, ap}
-use Rattle.cinema_stream.proofs.ChangedPlace.{changed-high, changed-low}
-use Rattle.cinema_stream.proofs.lengths.place_changed.Goals as goal
-use Rattle.cinema_stream.proofs.lengths.place_changed.Goals.{then-rank-lt45, else-rank-lt45}
+use Rattle.block_packets.proofs.ChangedPlace.{changed-high, changed-low}
+use Rattle.block_packets.proofs.changes.place_changed.Goals as goal
+use Rattle.block_packets.proofs.changes.place_changed.Goals.{then-rank-lt45, else-rank-lt45}
 
 pub returns-clause-place : goal.returns-clause-place
 returns-clause-place c =

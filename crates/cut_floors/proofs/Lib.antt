@@ -1,0 +1,2 @@
+mod Resolutions
+mod PartSums
