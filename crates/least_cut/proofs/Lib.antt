@@ -1,0 +1,3 @@
+mod NextCut
+mod Steps
+mod Answered
