@@ -1,16 +1,16 @@
 -- The item of one frame, and one more frame in the picture file.
-use Rattle.std.proofs.Common.{◌≡◌, ℕ, zero, suc, ◌+◌, ◌-◌, ◌*◌, ◌<◌, ◌≤◌, Bool, true, false, ◌&&◌, List, [], ◌∷◌, ◌++◌, length, take, cond, get_or, sum_by, Option, Some, None, option_map, inl, inr, refl, sym, ◌∙◌, ap, subst, add-one, arith}
+use Rattle.std.proofs.Common.{◌≡◌, ℕ, zero, suc, ◌+◌, ◌-◌, ◌*◌, ◌<◌, ◌≤◌, Bool, true, false, List, [], ◌∷◌, ◌++◌, length, take, cond, get_or, Some, Ok, Err, inl, inr, refl, sym, ◌∙◌, ap, subst, add-one, arith}
 use Rattle.std.proofs.Math.Nat.{div-lt_iff_lt-mul}
-use Rattle.std.proofs.lemmas.List.Folds.{list_all_at}
-use Rattle.std.proofs.Math.Bool.{and-false}
-use Rattle.std.proofs.Math.Seq.{take-suc}
+use Rattle.std.proofs.Math.Seq.{take-append-add, take-suc}
 use Rattle.std.proofs.lemmas.Grind.{flat_map-append}
 use Rattle.std.proofs.lemmas.Option.{slice_get-get_or, slice_get_within}
 use Rattle.std.proofs.lemmas.Bool.Decides.{nat_tests}
-use Rattle.std.proofs.lemmas.List.{append-nil}
+use Rattle.std.proofs.lemmas.List.{append-nil, length-append, length-take-le, take-append-le, take-take}
+use Rattle.std.proofs.lemmas.List.Elements.{All-push}
 use Rattle.std.proofs.lemmas.List.Sums.{sum_by_push}
-use Rattle.std.specs.List.{flat_map, list_all}
-use Rattle.std.specs.Prelude.{◌==◌, option_and_then, slice_get, IsTrue, IsSome, ◌↔◌}
+use Rattle.std.specs.List.{flat_map}
+use Rattle.std.specs.Prelude.{slice_get, IsTrue, IsOk, Result, ◌↔◌}
+use Rattle.codec_terms.specs.Reading.{on_ok}
 use Rattle.film_plan.proofs.Cells.{length-cells_of}
 use Rattle.film_plan.specs.Plan.{limits_of}
 use Rattle.film_project.specs.Facts.{ProjectFacts}
@@ -19,15 +19,17 @@ use Rattle.film_timeline.proofs.Fresh.{fresh_step}
 use Rattle.film_timeline.specs.Timeline.{IsFresh, cells_of, fresh_cells}
 use Rattle.film_timeline.specs.declared.cell.Cell.{Cell}
 use Rattle.film_timeline.specs.declared.cell.Cell.TheVariants.{Black}
+use Rattle.frame_values.specs.Causes.{IsCellCause, IsFrameValue, Shows}
+use Rattle.frame_values.specs.Shown.{Shown, cell_shown, cells_shown}
+use Rattle.frame_values.specs.declared.ends.CellEnd.{CellEnd}
+use Rattle.frame_values.specs.declared.ends.CellEnd.TheVariants as of_cell
 use Rattle.mast_world.specs.Count.{counted}
-use Rattle.make_engine.specs.Causes.{IsBadFrame, IsFileCause, IsFrameCause, IsMissingFrame, ShowsFile}
-use Rattle.make_engine.specs.Engine.{HasCopied, IsInFile, IsItemAt, IsTooLong, ReadsItem, TakesItem}
-use Rattle.make_engine.specs.Item.{item}
-use Rattle.make_engine.specs.Package.{codestream, is_built, is_ready, value_of, values_of}
+use Rattle.make_engine.specs.Causes.{IsFrameCause, IsReached, IsSingleCause}
+use Rattle.make_engine.specs.Ends.{frame_end}
+use Rattle.make_engine.specs.Engine.{HasCopied, HasFrameItems, IsFrameItem, IsItemAt, MakesItem, TakesItem}
+use Rattle.make_engine.specs.Item.{item, item_head}
+use Rattle.make_engine.specs.Package.{all_taken}
 use Rattle.mast_world.specs.Content.{Files}
-use Rattle.make_engine.specs.declared.outcome.BadWhy.{BadWhy}
-use Rattle.make_engine.specs.declared.outcome.FrameEnd.{FrameEnd}
-use Rattle.make_engine.specs.declared.outcome.FrameEnd.TheVariants as of_frame
 
 -- whether frame f repeats the one before it
 abbrev pub Repeats : List Cell → ℕ → Type 0
@@ -35,6 +37,10 @@ Repeats cells f = (0 < f) × (slice_get cells f ≡ slice_get cells (f - 1))
 
 pub cell_there : (project : ProjectFacts) (cells : List Cell) (f : ℕ) → cells ≡ cells_of project → f < project.frames → f < length cells
 cell_there project cells f are below = rw (are, length-cells_of project) below
+
+-- the cell of frame f
+pub cell_is : (project : ProjectFacts) (cells : List Cell) (f : ℕ) → cells ≡ cells_of project → f < length cells → slice_get (cells_of project) f ≡ Some (get_or cells f Black)
+cell_is project cells f are below = sym (ap (λ cells. slice_get cells f) are) ∙ slice_get-get_or cells f Black below
 
 -- the greatest limit
 pub limit_small : (project : ProjectFacts) → project.rate ≤ 250 → IsTrue (is_frame_rate project.fps) → (limits_of project).frame ≤ 1302083
@@ -44,86 +50,100 @@ limit_small project rate known =
     let small = (div-lt_iff_lt-mul {k = project.fps} {x = project.rate * 125000} {y = 1302084} (omega arith)).1 below in
     omega (arith, small)
 
--- a cell that isn't built leaves nothing built
-pub not_built : (project : ProjectFacts) (cells : List Cell) (f : ℕ) → cells ≡ cells_of project → f < length cells → is_ready project (get_or cells f Black) ≡ false → is_built project ≡ false
-not_built project cells f are below unready =
-    ap (λ ready. project.channels == 0 && ready) (ap (list_all (is_ready project)) (sym are) ∙ list_all_at (is_ready project) cells f Black below unready)
-    ∙ and-false (project.channels == 0)
+-- ---- items
 
-mapped : (o : Option (List ℕ)) (bytes : List ℕ) → option_map item o ≡ Some bytes → (value : List ℕ) × (o ≡ Some value) × (bytes ≡ item value)
-mapped None bytes h = absurd (cc)
-mapped (Some value) bytes h = (value, refl, cc)
+-- a head and the front of what follows it are an item
+pub item_front : (n : ℕ) (head value : List ℕ) → head ≡ item_head n → length head ≡ 20 → n ≤ length value → take (20 + n) (head ++ value) ≡ item (take n value)
+item_front n head value is long within =
+    ap (λ size. take (size + n) (head ++ value)) (sym long)
+    ∙ take-append-add head value n
+    ∙ ap (λ bytes. bytes ++ take n value) (is ∙ ap item_head (sym (length-take-le n value within)))
 
-came : (show : Cell → Option (List ℕ)) (o : Option Cell) (bytes : List ℕ) → option_map item (option_and_then show o) ≡ Some bytes → (cell : Cell) × (value : List ℕ) × (o ≡ Some cell) × (show cell ≡ Some value) × (bytes ≡ item value)
-came show None bytes h = absurd (cc)
-came show (Some cell) bytes h = (let parts = mapped (show cell) bytes h in (cell, parts.0, refl, parts.1, parts.2))
+pub makes_item : (files : Files) (project : ProjectFacts) (cell : Cell) (value bytes : List ℕ) (before now : ℕ) → bytes ≡ item value → Shows files project cell value before now → MakesItem files project cell bytes before now
+makes_item files project cell value bytes before now is shows = record {
+  shown = shows.shown;
+  is = shows.is;
+  made = is ∙ ap item shows.value;
+  taken = shows.taken;
+}
+
+-- the front of a room that was given back is what was put there
+pub front_kept : (n size : ℕ) (room rest cut bytes : List ℕ) → bytes ≡ cut → cut ≡ take n (take size (room ++ rest)) → n ≤ size → n ≤ length room → bytes ≡ take n room
+front_kept n size room rest cut bytes is from small within = is ∙ from ∙ take-take n size (room ++ rest) small ∙ take-append-le n room rest within
+
+pub shows_same : (files : Files) (project : ProjectFacts) (cell other : Cell) (value bytes : List ℕ) (before now : ℕ) → cell ≡ other → bytes ≡ value → Shows files project cell value before now → Shows files project other bytes before now
+shows_same files project cell other value bytes before now same is shows = record {
+  shown = shows.shown;
+  is = ap (cell_shown files project) (sym same) ∙ shows.is;
+  value = is ∙ shows.value;
+  taken = shows.taken;
+}
 
 -- the item of the frame before serves again
 pub takes_again : (files : Files) (project : ProjectFacts) (cells : List Cell) (f : ℕ) (bytes : List ℕ) (taken : ℕ) (repeats : Bool) → cells ≡ cells_of project → (IsTrue repeats ↔ Repeats cells f) → repeats ≡ true → (0 < f → IsItemAt files project (f - 1) bytes) → TakesItem files project f bytes taken taken
 takes_again files project cells f bytes taken repeats are test is held =
     let same : Repeats cells f = test.0 (rw is (search)) in
     let there : IsItemAt files project (f - 1) bytes = held same.0 in
-    let parts = came (value_of files project) (slice_get (cells_of project) (f - 1)) bytes there in
     record {
-      cell = parts.0;
-      value = parts.1;
+      cell = there.cell;
+      shown = there.shown;
       repeats = true;
-      at = sym (ap (λ cells. slice_get cells f) are) ∙ same.1 ∙ ap (λ cells. slice_get cells (f - 1)) are ∙ parts.2;
-      shown = parts.3;
-      made = parts.4;
+      at = sym (ap (λ cells. slice_get cells f) are) ∙ same.1 ∙ ap (λ cells. slice_get cells (f - 1)) are ∙ there.at;
+      is = there.is;
+      made = there.made;
       test = subst (λ (cells : List Cell). IsTrue true ↔ Repeats cells f) are (rw is at test);
       taken = omega arith;
     }
 
--- what a cell shows is in its file
-pub in_file : (files : Files) (project : ProjectFacts) (cell : Cell) (name : List ℕ) → IsInFile project cell name → value_of files project cell ≡ codestream (limits_of project).frame (files name)
-in_file files project cell name file = rw (file.shown, file.ready, file.named) refl
-
--- the item of a fresh frame was read
-pub takes_fresh : (files : Files) (project : ProjectFacts) (cells : List Cell) (f most : ℕ) (name bytes : List ℕ) (before now : ℕ) (repeats : Bool) → cells ≡ cells_of project → f < length cells → (IsTrue repeats ↔ Repeats cells f) → repeats ≡ false → most ≡ (limits_of project).frame → IsInFile project (get_or cells f Black) name → ReadsItem most (files name) bytes before now → TakesItem files project f bytes before now
-takes_fresh files project cells f most name bytes before now repeats are below test is limit file read = record {
+-- the item of a fresh frame was made
+pub takes_fresh : (files : Files) (project : ProjectFacts) (cells : List Cell) (f : ℕ) (bytes : List ℕ) (before now : ℕ) (repeats : Bool) → cells ≡ cells_of project → f < length cells → (IsTrue repeats ↔ Repeats cells f) → repeats ≡ false → MakesItem files project (get_or cells f Black) bytes before now → TakesItem files project f bytes before now
+takes_fresh files project cells f bytes before now repeats are below test is made = record {
   cell = get_or cells f Black;
-  value = read.value;
+  shown = made.shown;
   repeats = false;
-  at = sym (ap (λ cells. slice_get cells f) are) ∙ slice_get-get_or cells f Black below;
-  shown = in_file files project (get_or cells f Black) name file ∙ ap (λ most. codestream most (files name)) (sym limit) ∙ read.shown;
-  made = read.made;
+  at = cell_is project cells f are below;
+  is = made.is;
+  made = made.made;
   test = subst (λ (cells : List Cell). IsTrue false ↔ Repeats cells f) are (rw is at test);
-  taken = read.taken;
+  taken = made.taken;
 }
+
+-- ---- ends
 
 is_fresh : (cells : List Cell) (f : ℕ) → (IsTrue false ↔ Repeats cells f) → IsFresh cells f
 is_fresh cells zero test = inl refl
 is_fresh cells (suc f) test = inr (λ same. cc (test.1 (omega arith, same)))
 
--- a fresh frame shows its file
-pub shows_file : (tells : Type 0) (files : Files) (project : ProjectFacts) (cells : List Cell) (f : ℕ) (name : List ℕ) (repeats : Bool) → cells ≡ cells_of project → f < length cells → (IsTrue repeats ↔ Repeats cells f) → repeats ≡ false → IsInFile project (get_or cells f Black) name → (tells → IsSome (values_of files project (take f (cells_of project)))) → ShowsFile tells files project f name
-shows_file tells files project cells f name repeats are below test is file earlier = record {
-  asset = file.asset;
-  index = file.index;
-  at = sym (ap (λ cells. slice_get cells f) are) ∙ slice_get-get_or cells f Black below ∙ ap Some file.shown;
+-- a fresh frame was reached
+pub is_reached : (tells : Type 0) (files : Files) (project : ProjectFacts) (cells : List Cell) (f : ℕ) (repeats : Bool) → cells ≡ cells_of project → f < length cells → (IsTrue repeats ↔ Repeats cells f) → repeats ≡ false → (tells → IsOk (cells_shown files project (take f (cells_of project)))) → IsReached tells files project f (get_or cells f Black)
+is_reached tells files project cells f repeats are below test is earlier = record {
+  at = cell_is project cells f are below;
   fresh = is_fresh (cells_of project) f (subst (λ (cells : List Cell). IsTrue false ↔ Repeats cells f) are (rw is at test));
-  named = file.named;
   earlier = earlier;
 }
 
--- its file isn't there, or is too long
-pub missing_frame : (tells : Type 0) (files : Files) (project : ProjectFacts) (frame : ℕ) (here name : List ℕ) → ShowsFile tells files project frame here → name ≡ here → (tells → files here ≡ None) → IsMissingFrame tells files project name
-missing_frame tells files project frame here name shows named gone = record {
-  f = frame;
-  shows = rw named shows;
-  gone = rw named gone;
-}
+-- a fresh frame has no item by what its cell shows
+pub frame_ends :
+    {A : Type 0} (tells : Type 0) (files : Files) (project : ProjectFacts) (f : ℕ) (cell : Cell) (absent faults : A → ℕ) (before now : A) (end : CellEnd) →
+    IsReached tells files project f cell →
+    IsCellCause tells files project cell absent faults before now end → IsFrameCause tells files project absent faults before now (frame_end f end)
+frame_ends tells files project f cell absent faults before now (of_cell.Missing name) reached is =
+    (record { f = f; cell = cell; reached = reached; named = is.0; gone = is.2 }, is.1)
+frame_ends tells files project f cell absent faults before now (of_cell.Bad why) reached is =
+    record { cell = cell; reached = reached; fault = is.0; told = is.1 }
+frame_ends tells files project f cell absent faults before now of_cell.SourceFault reached is = is
+frame_ends tells files project f cell absent faults before now of_cell.NoMemory reached is = tt
 
-pub bad_frame : (tells : Type 0) (files : Files) (project : ProjectFacts) (here frame most : ℕ) (why : BadWhy) (name : List ℕ) → ShowsFile tells files project here name → most ≡ (limits_of project).frame → IsTooLong tells most (files name) here frame why → IsBadFrame tells files project frame why
-bad_frame tells files project here frame most why name shows limit long = record {
-  name = name;
-  shows = rw long.named shows;
-  got = long.got;
-  limit = long.limit;
-  above = rw (← limit) long.above;
-  size = long.size;
-}
+-- nor has one by itself
+pub single_ends :
+    {A : Type 0} (tells : Type 0) (files : Files) (project : ProjectFacts) (f : ℕ) (cell : Cell) (absent faults : A → ℕ) (before now : A) (end : CellEnd) →
+    IsCellCause tells files project cell absent faults before now end → IsSingleCause tells files project f cell absent faults before now (frame_end f end)
+single_ends tells files project f cell absent faults before now (of_cell.Missing name) is = is
+single_ends tells files project f cell absent faults before now (of_cell.Bad why) is = (refl, is.0, is.1)
+single_ends tells files project f cell absent faults before now of_cell.SourceFault is = is
+single_ends tells files project f cell absent faults before now of_cell.NoMemory is = tt
+
+-- ---- one more frame
 
 pub counted-counted : (c a b : ℕ) → counted (counted c a) b ≡ counted c (a + b)
 counted-counted c a b = omega arith
@@ -132,17 +152,18 @@ counted-counted c a b = omega arith
 pub counted_next : (first place n held before now : ℕ) → now ≡ counted before n → n ≡ held → before ≡ counted first place → now ≡ counted first (place + held)
 counted_next first place n held before now more size so_far = omega arith
 
--- what an Option that gave something was
-joined : (head : Option (List ℕ)) (tail : Option (List (List ℕ))) (values : List (List ℕ)) → option_and_then (λ first. option_map (λ others. first ∷ others) tail) head ≡ Some values → (first : List ℕ) × (others : List (List ℕ)) × (head ≡ Some first) × (tail ≡ Some others) × (first ∷ others ≡ values)
-joined (Some first) (Some others) values h = (first, others, refl, refl, cc)
-joined (Some first) None values h = absurd (cc)
-joined None tail values h = absurd (cc)
+-- what shown cells show
+pub joined : (head : Result Shown CellEnd) (tail : Result (List Shown) CellEnd) (frames : List Shown) → on_ok head (λ shown. on_ok tail (λ rest. Ok (shown ∷ rest))) ≡ Ok frames → (first : Shown) × (rest : List Shown) × (head ≡ Ok first) × (tail ≡ Ok rest) × (first ∷ rest ≡ frames)
+joined (Ok first) (Ok rest) frames h = (first, rest, refl, refl, cc)
+joined (Ok first) (Err end) frames h = absurd (cc)
+joined (Err end) tail frames h = absurd (cc)
 
-values_push : (files : Files) (project : ProjectFacts) (cells : List Cell) (values : List (List ℕ)) (cell : Cell) (value : List ℕ) → values_of files project cells ≡ Some values → value_of files project cell ≡ Some value → values_of files project (cells ++ cell ∷ []) ≡ Some (values ++ value ∷ [])
-values_push files project [] values cell value shown one = rw one (cc)
-values_push files project (x ∷ cells) values cell value shown one =
-    let parts = joined (value_of files project x) (values_of files project cells) values shown in
-    rw (parts.2, values_push files project cells parts.1 cell value parts.3 one) (ap (λ vs. Some (vs ++ value ∷ [])) parts.4)
+frames_push : (files : Files) (project : ProjectFacts) (cells : List Cell) (frames : List Shown) (cell : Cell) (shown : Shown) → cells_shown files project cells ≡ Ok frames → cell_shown files project cell ≡ Ok shown → cells_shown files project (cells ++ cell ∷ []) ≡ Ok (frames ++ shown ∷ [])
+unfolding cells_shown
+frames_push files project [] frames cell shown all one = rw one (cc)
+frames_push files project (x ∷ cells) frames cell shown all one =
+    let parts = joined (cell_shown files project x) (cells_shown files project cells) frames all in
+    rw (parts.2, frames_push files project cells parts.1 cell shown parts.3 one) (ap (λ frames. Ok (frames ++ shown ∷ [])) parts.4)
 
 take_next : (cells : List Cell) (f : ℕ) (cell : Cell) → slice_get cells f ≡ Some cell → take (suc f) cells ≡ take f cells ++ cell ∷ []
 take_next cells f cell is =
@@ -150,47 +171,52 @@ take_next cells f cell is =
     let there : get_or cells f cell ≡ cell = cc (is, slice_get-get_or cells f cell below) in
     take-suc cells f cell below ∙ ap (λ c. take f cells ++ c ∷ []) there
 
--- a fresh frame's value is one more
-fresh_push : (files : Files) (project : ProjectFacts) (cells : List Cell) (fresh : List (List ℕ)) (cell : Cell) (value : List ℕ) (repeats : Bool) → values_of files project cells ≡ Some fresh → value_of files project cell ≡ Some value → values_of files project (cells ++ cond repeats [] (cell ∷ [])) ≡ Some (fresh ++ cond repeats [] (value ∷ []))
-fresh_push files project cells fresh cell value true shown one = rw (append-nil cells, append-nil fresh) shown
-fresh_push files project cells fresh cell value false shown one = values_push files project cells fresh cell value shown one
+-- what a fresh frame shows is one more
+fresh_push : (files : Files) (project : ProjectFacts) (cells : List Cell) (fresh : List Shown) (cell : Cell) (shown : Shown) (repeats : Bool) → cells_shown files project cells ≡ Ok fresh → cell_shown files project cell ≡ Ok shown → cells_shown files project (cells ++ cond repeats [] (cell ∷ [])) ≡ Ok (fresh ++ cond repeats [] (shown ∷ []))
+fresh_push files project cells fresh cell shown true all one = rw (append-nil cells, append-nil fresh) all
+fresh_push files project cells fresh cell shown false all one = frames_push files project cells fresh cell shown all one
 
-sum_more : (fresh : List (List ℕ)) (value : List ℕ) (repeats : Bool) → sum_by length (fresh ++ cond repeats [] (value ∷ [])) ≡ sum_by length fresh + cond repeats 0 (length value)
-sum_more fresh value true = ap (sum_by length) (append-nil fresh) ∙ omega arith
-sum_more fresh value false = sum_by_push length fresh value
+taken_more : (fresh : List Shown) (shown : Shown) (repeats : Bool) → all_taken (fresh ++ cond repeats [] (shown ∷ [])) ≡ all_taken fresh + cond repeats 0 shown.taken
+taken_more fresh shown true = ap all_taken (append-nil fresh) ∙ omega arith
+taken_more fresh shown false = sum_by_push (λ (shown : Shown). shown.taken) fresh shown
 
-items_push : (values : List (List ℕ)) (value : List ℕ) → flat_map item (values ++ value ∷ []) ≡ flat_map item values ++ item value
-items_push values value = flat_map-append item values (value ∷ []) ∙ ap (λ bytes. flat_map item values ++ bytes) (append-nil (item value))
+items_push : {A : Type 0} (f : A → List ℕ) (frames : List A) (frame : A) → flat_map f (frames ++ frame ∷ []) ≡ flat_map f frames ++ f frame
+items_push f frames frame = flat_map-append f frames (frame ∷ []) ∙ ap (λ bytes. flat_map f frames ++ bytes) (append-nil (f frame))
+
+-- no frame was copied yet
+pub nothing_copied : (volume_tells : Type 0) (files : Files) (project : ProjectFacts) (picture : List ℕ) (taken : ℕ) → (volume_tells → picture ≡ []) → HasCopied volume_tells files project 0 picture taken taken
+unfolding cells_shown
+nothing_copied volume_tells files project picture taken empty = record { frames = []; fresh = []; shown = refl; read = refl; written = empty; taken = omega arith }
 
 -- one more frame was copied
 pub HasCopied_more : (volume_tells : Type 0) (files : Files) (project : ProjectFacts) (f : ℕ) (before now bytes : List ℕ) (taken_first taken_before taken_now : ℕ) → HasCopied volume_tells files project f before taken_first taken_before → TakesItem files project f bytes taken_before taken_now → (volume_tells → now ≡ before ++ bytes) → HasCopied volume_tells files project (f + 1) now taken_first taken_now
 HasCopied_more volume_tells files project f before now bytes taken_first taken_before taken_now copied one written = record {
-  values = copied.values ++ one.value ∷ [];
-  fresh = copied.fresh ++ cond one.repeats [] (one.value ∷ []);
-  shown = ap (λ n. values_of files project (take n (cells_of project))) (add-one f)
-      ∙ ap (values_of files project) (take_next (cells_of project) f one.cell one.at)
-      ∙ values_push files project (take f (cells_of project)) copied.values one.cell one.value copied.shown one.shown;
-  read = ap (values_of files project) (fresh_step (cells_of project) f one.repeats one.cell one.at one.test)
-      ∙ fresh_push files project (fresh_cells (take f (cells_of project))) copied.fresh one.cell one.value one.repeats copied.read one.shown;
-  written = λ tells. written tells ∙ ap (λ bytes. before ++ bytes) one.made ∙ ap (λ before. before ++ item one.value) (copied.written tells) ∙ sym (items_push copied.values one.value);
+  frames = copied.frames ++ one.shown ∷ [];
+  fresh = copied.fresh ++ cond one.repeats [] (one.shown ∷ []);
+  shown = ap (λ n. cells_shown files project (take n (cells_of project))) (add-one f)
+      ∙ ap (cells_shown files project) (take_next (cells_of project) f one.cell one.at)
+      ∙ frames_push files project (take f (cells_of project)) copied.frames one.cell one.shown copied.shown one.is;
+  read = ap (cells_shown files project) (fresh_step (cells_of project) f one.repeats one.cell one.at one.test)
+      ∙ fresh_push files project (fresh_cells (take f (cells_of project))) copied.fresh one.cell one.shown one.repeats copied.read one.is;
+  written = λ tells. written tells ∙ ap (λ bytes. before ++ bytes) one.made ∙ ap (λ before. before ++ item one.shown.value) (copied.written tells)
+      ∙ sym (items_push (λ (shown : Shown). item shown.value) copied.frames one.shown);
   taken = one.taken
-      ∙ ap (λ t. counted t (cond one.repeats 0 (length one.value))) copied.taken
-      ∙ counted-counted taken_first (sum_by length copied.fresh) (cond one.repeats 0 (length one.value))
-      ∙ ap (counted taken_first) (sym (sum_more copied.fresh one.value one.repeats));
+      ∙ ap (λ t. counted t (cond one.repeats 0 one.shown.taken)) copied.taken
+      ∙ counted-counted taken_first (all_taken copied.fresh) (cond one.repeats 0 one.shown.taken)
+      ∙ ap (counted taken_first) (sym (taken_more copied.fresh one.shown one.repeats));
+}
+
+-- one more item is in the file
+pub HasFrameItems_more : (project : ProjectFacts) (f : ℕ) (before now bytes : List ℕ) → HasFrameItems project f before → IsFrameItem project bytes → now ≡ before ++ bytes → HasFrameItems project (f + 1) now
+HasFrameItems_more project f before now bytes so_far one written = record {
+  values = so_far.values ++ one.value ∷ [];
+  count = length-append so_far.values (one.value ∷ []) ∙ ap (λ n. n + 1) so_far.count;
+  each = All-push (IsFrameValue project) so_far.values one.value so_far.each one.of;
+  written = written ∙ ap (λ bytes. before ++ bytes) one.made ∙ ap (λ before. before ++ item one.value) so_far.written ∙ sym (items_push item so_far.values one.value);
 }
 
 -- the item that was taken is that of the frame before the next one
 pub held_next : (files : Files) (project : ProjectFacts) (f : ℕ) (bytes : List ℕ) (taken_before taken_now : ℕ) → TakesItem files project f bytes taken_before taken_now → IsItemAt files project (f + 1 - 1) bytes
 held_next files project f bytes taken_before taken_now one =
     let e : f + 1 - 1 ≡ f = omega arith in
-    rw (e, one.at) (ap (option_map item) one.shown ∙ ap Some (sym one.made))
-
--- a fresh frame has no item by what its file is
-pub of_file :
-    {A : Type 0} (tells : Type 0) (files : Files) (project : ProjectFacts) (here most : ℕ) (name : List ℕ) (absent faults : A → ℕ) (before now : A) (end : FrameEnd) →
-    ShowsFile tells files project here name → most ≡ (limits_of project).frame →
-    IsFileCause tells files name most here absent faults before now end → IsFrameCause tells files project absent faults before now end
-of_file tells files project here most name absent faults before now (of_frame.Missing n) shows limit is = (missing_frame tells files project here name n shows is.0 is.1, is.2)
-of_file tells files project here most name absent faults before now (of_frame.Bad f why) shows limit is = bad_frame tells files project here f most why name shows limit is
-of_file tells files project here most name absent faults before now of_frame.SourceFault shows limit is = is
-of_file tells files project here most name absent faults before now of_frame.NoMemory shows limit is = tt
+    record { cell = one.cell; shown = one.shown; at = ap (slice_get (cells_of project)) e ∙ one.at; is = one.is; made = one.made }

@@ -1,2 +1,4 @@
+pub mod Encoded
 pub mod Frames
 pub mod Outcomes
+pub mod Singles

@@ -1,65 +1,64 @@
 -- Why no package was made, ending by ending.
-use Rattle.std.specs.Prelude.{◌≡◌, ◌⊎◌, ℕ, ◌<◌, List, length, take, slice_get, Some, None, option_map, IsSome, IsFalse, ⊤}
-use Rattle.film_plan.specs.Plan.{limits_of}
-use Rattle.film_project.specs.Facts.{ProjectFacts, asset_at}
+use Rattle.std.specs.Prelude.{◌≡◌, ◌⊎◌, ℕ, List, take, slice_get, Some, Err, IsOk, IsFalse, ⊤}
+use Rattle.film_project.specs.Facts.{ProjectFacts}
 use Rattle.film_timeline.specs.Timeline.{cells_of, IsFresh}
-use Rattle.film_timeline.specs.declared.cell.Cell.TheVariants as cell
+use Rattle.film_timeline.specs.declared.cell.Cell.{Cell}
+use Rattle.frame_values.specs.Causes.{IsFault, IsInFile}
+use Rattle.frame_values.specs.Shown.{cell_shown, cells_shown}
+use Rattle.frame_values.specs.declared.ends.BadWhy.{BadWhy}
+use Rattle.frame_values.specs.declared.ends.CellEnd.TheVariants as of_cell
 use Rattle.mast_world.specs.Changes.{IsUnwritten}
 use Rattle.mast_world.specs.Content.{Files}
 use Rattle.mast_world.specs.Count.{HasRisen}
 use Rattle.mast_world.specs.declared.volume.FileId.{FileId}
-use Rattle.make_engine.specs.Engine.{IsTooLong}
-use Rattle.make_engine.specs.Package.{codestream_name, is_built, values_of}
+use Rattle.make_engine.specs.Package.{is_built}
 use Rattle.make_engine.specs.declared.outcome.FrameEnd.{FrameEnd}
 use Rattle.make_engine.specs.declared.outcome.FrameEnd.TheVariants.{Missing, Bad, SourceFault}
 use Rattle.make_engine.specs.declared.outcome.FrameEnd.TheVariants as of_frame
 use Rattle.make_engine.specs.declared.outcome.MakeEnd.{MakeEnd}
 use Rattle.make_engine.specs.declared.outcome.MakeEnd.TheVariants.{Frame, StoreFault, Unbuilt, NoMemory}
-use Rattle.make_engine.specs.declared.outcome.BadWhy.{BadWhy}
-use Rattle.make_engine.specs.declared.outcome.BadWhy.TheVariants.{Limit}
 
--- frame f is fresh and shows this file; all frames in front of it can be shown
-pub record ShowsFile (tells : Type 0) (files : Files) (project : ProjectFacts) (f : ℕ) (name : List ℕ) : Type 0 where
-  pub asset : ℕ
-  pub index : ℕ
-  pub at : slice_get (cells_of project) f ≡ Some (cell.Frame asset index)
+-- frame f is fresh and shows this cell; all frames in front of it can be shown
+pub record IsReached (tells : Type 0) (files : Files) (project : ProjectFacts) (f : ℕ) (cell : Cell) : Type 0 where
+  pub at : slice_get (cells_of project) f ≡ Some cell
   pub fresh : IsFresh (cells_of project) f
-  pub named : name ≡ codestream_name (asset_at project asset) index
-  pub earlier : tells → IsSome (values_of files project (take f (cells_of project)))
+  pub earlier : tells → IsOk (cells_shown files project (take f (cells_of project)))
 
 -- a fresh frame's file isn't there
 pub record IsMissingFrame (tells : Type 0) (files : Files) (project : ProjectFacts) (name : List ℕ) : Type 0 where
   pub f : ℕ
-  pub shows : ShowsFile tells files project f name
-  pub gone : tells → files name ≡ None
+  pub cell : Cell
+  pub reached : IsReached tells files project f cell
+  pub named : IsInFile project cell name
+  pub gone : tells → cell_shown files project cell ≡ Err (of_cell.Missing name)
 
--- a fresh frame's file has more bytes than the limit allows
+-- a fresh frame's input breaks its form
 pub record IsBadFrame (tells : Type 0) (files : Files) (project : ProjectFacts) (f : ℕ) (why : BadWhy) : Type 0 where
-  pub name : List ℕ
-  pub shows : ShowsFile tells files project f name
-  pub got : ℕ
-  pub limit : why ≡ Limit 0 got
-  pub above : (limits_of project).frame < got
-  pub size : tells → option_map length (files name) ≡ Some got
+  pub cell : Cell
+  pub reached : IsReached tells files project f cell
+  pub fault : IsFault project why
+  pub told : tells → cell_shown files project cell ≡ Err (of_cell.Bad why)
 
 -- ---- endings. Devices are given by what they tell and count, and by their states before and now.
 
 module _ {A : Type 0} (tells : Type 0) (files : Files) where
-  -- of reading a frame's codestream from its file
-  abbrev pub IsFileCause : List ℕ → ℕ → ℕ → (A → ℕ) → (A → ℕ) → A → A → FrameEnd → Type 0
-  IsFileCause file most here absent faults before now (Missing name) =
-      (name ≡ file) × (tells → files file ≡ None) × HasRisen (absent before) (absent now)
-  IsFileCause file most here absent faults before now (Bad frame why) = IsTooLong tells most (files file) here frame why
-  IsFileCause file most here absent faults before now SourceFault = HasRisen (faults before) (faults now)
-  IsFileCause file most here absent faults before now of_frame.NoMemory = ⊤
-
-  -- of making the item of a frame
+  -- of making the item of a frame, where the frames are made in order
   abbrev pub IsFrameCause : ProjectFacts → (A → ℕ) → (A → ℕ) → A → A → FrameEnd → Type 0
   IsFrameCause project absent faults before now (Missing name) =
       IsMissingFrame tells files project name × HasRisen (absent before) (absent now)
   IsFrameCause project absent faults before now (Bad frame why) = IsBadFrame tells files project frame why
   IsFrameCause project absent faults before now SourceFault = HasRisen (faults before) (faults now)
   IsFrameCause project absent faults before now of_frame.NoMemory = ⊤
+
+  -- of making one frame by itself
+  abbrev pub IsSingleCause : ProjectFacts → ℕ → Cell → (A → ℕ) → (A → ℕ) → A → A → FrameEnd → Type 0
+  IsSingleCause project f cell absent faults before now (Missing name) =
+      IsInFile project cell name × HasRisen (absent before) (absent now)
+      × (tells → cell_shown files project cell ≡ Err (of_cell.Missing name))
+  IsSingleCause project f cell absent faults before now (Bad frame why) =
+      (frame ≡ f) × IsFault project why × (tells → cell_shown files project cell ≡ Err (of_cell.Bad why))
+  IsSingleCause project f cell absent faults before now SourceFault = HasRisen (faults before) (faults now)
+  IsSingleCause project f cell absent faults before now of_frame.NoMemory = ⊤
 
   module _ {B : Type 0} (project : ProjectFacts) (absent faults : A → ℕ) (before now : A) where
     -- of copying the frames

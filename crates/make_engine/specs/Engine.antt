@@ -1,70 +1,69 @@
--- What the engine does with one frame.
-use Rattle.std.specs.Prelude.{◌≡◌, ℕ, ◌<◌, ◌↔◌, ◌-◌, Bool, IsTrue, List, length, take, sum_by, if◌then◌else◌, slice_get, Option, Some, option_map, option_and_then}
+-- What the engine does with one frame, and with all of them.
+use Rattle.std.specs.Prelude.{◌≡◌, ℕ, ◌<◌, ◌↔◌, ◌-◌, Bool, IsTrue, List, length, take, All, if◌then◌else◌, slice_get, Some, Ok}
 use Rattle.std.specs.List.{flat_map}
-use Rattle.film_project.specs.Facts.{ProjectFacts, asset_at}
-use Rattle.film_project.specs.declared.asset.AssetKind.TheVariants.{J2c}
+use Rattle.film_project.specs.Facts.{ProjectFacts}
 use Rattle.film_timeline.specs.Timeline.{cells_of, fresh_cells}
 use Rattle.film_timeline.specs.declared.cell.Cell.{Cell}
-use Rattle.film_timeline.specs.declared.cell.Cell.TheVariants.{Frame}
+use Rattle.frame_values.specs.Causes.{IsFrameValue}
+use Rattle.frame_values.specs.Shown.{Shown, cell_shown, cells_shown}
+use Rattle.mast_world.specs.Content.{Files}
 use Rattle.mast_world.specs.Count.{counted}
 use Rattle.make_engine.specs.Item.{item}
-use Rattle.make_engine.specs.Package.{codestream, codestream_name, frames_size, picture_of, value_of, values_of}
-use Rattle.mast_world.specs.Content.{Files}
-use Rattle.make_engine.specs.declared.outcome.BadWhy.{BadWhy}
-use Rattle.make_engine.specs.declared.outcome.BadWhy.TheVariants.{Limit}
-
--- the cell shows a codestream that lies ready in this file
-pub record IsInFile (project : ProjectFacts) (cell : Cell) (name : List ℕ) : Type 0 where
-  pub asset : ℕ
-  pub index : ℕ
-  pub shown : cell ≡ Frame asset index
-  pub ready : (asset_at project asset).kind ≡ J2c
-  pub named : name ≡ codestream_name (asset_at project asset) index
-
--- the item of a file's codestream was made, and its bytes were counted
-pub record ReadsItem (limit : ℕ) (file : Option (List ℕ)) (bytes : List ℕ) (taken_before taken_now : ℕ) : Type 0 where
-  pub value : List ℕ
-  pub shown : codestream limit file ≡ Some value
-  pub made : bytes ≡ item value
-  pub taken : taken_now ≡ counted taken_before (length value)
-
--- the file has more bytes than a frame may have, and the frame is this one
-pub record IsTooLong (tells : Type 0) (most : ℕ) (file : Option (List ℕ)) (here frame : ℕ) (why : BadWhy) : Type 0 where
-  pub got : ℕ
-  pub named : frame ≡ here
-  pub limit : why ≡ Limit 0 got
-  pub above : most < got
-  pub size : tells → option_map length file ≡ Some got
+use Rattle.make_engine.specs.Package.{all_taken, frames_size, items_of, picture_of}
 
 -- the bytes are the item of what frame f shows
-abbrev pub IsItemAt : Files → ProjectFacts → ℕ → List ℕ → Type 0
-IsItemAt files project f bytes = option_map item (option_and_then (value_of files project) (slice_get (cells_of project) f)) ≡ Some bytes
+pub record IsItemAt (files : Files) (project : ProjectFacts) (f : ℕ) (bytes : List ℕ) : Type 0 where
+  pub cell : Cell
+  pub shown : Shown
+  pub at : slice_get (cells_of project) f ≡ Some cell
+  pub is : cell_shown files project cell ≡ Ok shown
+  pub made : bytes ≡ item shown.value
 
--- the bytes are the item of what frame f shows; those of its file were counted, unless the frame repeats the one before it
+-- the bytes are the item of what the cell shows, and what was taken for it was counted
+pub record MakesItem (files : Files) (project : ProjectFacts) (cell : Cell) (bytes : List ℕ) (taken_before taken_now : ℕ) : Type 0 where
+  pub shown : Shown
+  pub is : cell_shown files project cell ≡ Ok shown
+  pub made : bytes ≡ item shown.value
+  pub taken : taken_now ≡ counted taken_before shown.taken
+
+-- the bytes are the item of what frame f shows; what was taken for it was counted, unless the frame repeats the one before it
 pub record TakesItem (files : Files) (project : ProjectFacts) (f : ℕ) (bytes : List ℕ) (taken_before taken_now : ℕ) : Type 0 where
   pub cell : Cell
-  pub value : List ℕ
+  pub shown : Shown
   pub repeats : Bool
   pub at : slice_get (cells_of project) f ≡ Some cell
-  pub shown : value_of files project cell ≡ Some value
-  pub made : bytes ≡ item value
+  pub is : cell_shown files project cell ≡ Ok shown
+  pub made : bytes ≡ item shown.value
   pub test : IsTrue repeats ↔ ((0 < f) × (slice_get (cells_of project) f ≡ slice_get (cells_of project) (f - 1)))
-  pub taken : taken_now ≡ counted taken_before (if repeats then 0 else length value)
+  pub taken : taken_now ≡ counted taken_before (if repeats then 0 else shown.taken)
 
--- the first f frames are in the picture file, and nothing else; the bytes of the fresh ones were counted
+-- the bytes are the item of something that a frame may have
+pub record IsFrameItem (project : ProjectFacts) (bytes : List ℕ) : Type 0 where
+  pub value : List ℕ
+  pub of : IsFrameValue project value
+  pub made : bytes ≡ item value
+
+-- the first f frames are in the picture file, and nothing else; what was taken for the fresh ones was counted
 pub record HasCopied (volume_tells : Type 0) (files : Files) (project : ProjectFacts) (f : ℕ) (picture : List ℕ) (taken_before taken_now : ℕ) : Type 0 where
-  pub values : List (List ℕ)
-  pub fresh : List (List ℕ)
-  pub shown : values_of files project (take f (cells_of project)) ≡ Some values
-  pub read : values_of files project (fresh_cells (take f (cells_of project))) ≡ Some fresh
-  pub written : volume_tells → picture ≡ flat_map item values
-  pub taken : taken_now ≡ counted taken_before (sum_by length fresh)
+  pub frames : List Shown
+  pub fresh : List Shown
+  pub shown : cells_shown files project (take f (cells_of project)) ≡ Ok frames
+  pub read : cells_shown files project (fresh_cells (take f (cells_of project))) ≡ Ok fresh
+  pub written : volume_tells → picture ≡ items_of frames
+  pub taken : taken_now ≡ counted taken_before (all_taken fresh)
 
 -- the package was made: all its input was read, and the picture file is that of the frames
 pub record IsMade (volume_tells : Type 0) (files : Files) (project : ProjectFacts) (picture : List ℕ) (taken_before taken_now : ℕ) : Type 0 where
   pub made : List ℕ
   pub size : ℕ
-  pub shown : picture_of files project ≡ Some made
-  pub read : frames_size files project ≡ Some size
+  pub shown : picture_of files project ≡ Ok made
+  pub read : frames_size files project ≡ Ok size
   pub written : volume_tells → picture ≡ made
   pub taken : taken_now ≡ counted taken_before size
+
+-- the file is the items of so many codestreams, each within the project's limits, whatever the source told of its files
+pub record HasFrameItems (project : ProjectFacts) (frames : ℕ) (picture : List ℕ) : Type 0 where
+  pub values : List (List ℕ)
+  pub count : length values ≡ frames
+  pub each : All (IsFrameValue project) values
+  pub written : picture ≡ flat_map item values

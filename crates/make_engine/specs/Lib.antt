@@ -1,4 +1,5 @@
 pub mod Causes
+pub mod Ends
 pub mod Engine
 pub mod Item
 pub mod Package

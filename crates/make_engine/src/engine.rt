@@ -1,6 +1,7 @@
-ghost use Rattle.std.specs.Prelude.{◌≡◌, ◌++◌, [], Err, IfOk, IfErr, OnOk, IsSome, IsTrue, IsFalse, length};
+ghost use Rattle.std.specs.Prelude.{◌≡◌, ◌++◌, [], Err, IfOk, IfErr, OnOk, IsOk, IsTrue, IsFalse, length};
 ghost use Rattle.make_engine.specs.Causes.{IsCopyCause, IsMakeCause, IsOutOfMemory};
-ghost use Rattle.make_engine.specs.Engine.{HasCopied, IsMade};
+ghost use Rattle.frame_values.specs.Causes.{AreEncodedFrames};
+ghost use Rattle.make_engine.specs.Engine.{HasCopied, HasFrameItems, IsMade};
 ghost use Rattle.make_engine.specs.Package.{is_built, picture_of};
 ghost use Rattle.make_engine.specs.declared.engine.TheConstants.{PICTURE};
 ghost use Rattle.make_engine.specs.declared.item.TheConstants.{ROOM};
@@ -11,8 +12,9 @@ ghost use Rattle.mast_world.specs.declared.volume.FileId.TheVariants.{Picture};
 use crate::frame::take_item;
 use crate::item::ROOM;
 use crate::outcome::{MakeEnd, Options, Report};
-use crate::ready::is_built;
 use film_plan::Plan;
+use frame_maker::FrameMaker;
+use frame_values::encoded_frame_laws;
 use mast_world::{Failed, FileId, Source, Volume};
 use std::alloc::{AllocError, Global};
 
@@ -41,11 +43,11 @@ fn append<V: Volume>(volume: &mut V, place: u64, item: &[u8]) -> Result<(), Fail
 fn copy_frames<S: Source, V: Volume>(
     alloc: Global,
     plan: &Plan,
+    maker: &mut FrameMaker,
     source: &mut S,
     volume: &mut V,
     room: &mut [u8],
 ) -> Result<(), MakeEnd>
-    requires built { IsTrue (is_built plan.now.project) }
     requires room { length room.old ≡ ROOM }
     requires empty { V.tells → V.reads volume.old PICTURE ≡ [] }
 
@@ -54,6 +56,9 @@ fn copy_frames<S: Source, V: Volume>(
         (V.reads volume.new PICTURE) (S.taken source.old) (S.taken source.new)) }
     ensures put { V.tells
         → OnOk result (V.put volume.new PICTURE ≡ counted (V.put volume.old PICTURE) (length (V.reads volume.new PICTURE))) }
+
+    ensures values { V.tells
+        → OnOk result (HasFrameItems plan.now.project plan.now.project.frames (V.reads volume.new PICTURE)) }
 
     ensures ended { IfErr result (IsCopyCause S.tells (S.file source.old) plan.now.project
         S.absent S.faults source.old source.new V.faults volume.old volume.new) }
@@ -66,11 +71,18 @@ fn copy_frames<S: Source, V: Volume>(
     let mut held = 0;
     let mut place = 0;
     for frame in 0..project.frames {
-        held = take_item(alloc, plan, frame, source, room, held)?;
+        held = take_item(alloc, plan, frame, maker, source, room, held)?;
         append(volume, place, &room[..held])?;
         place += held as u64;
     }
     Ok(())
+}
+
+// Whether all that the plan asks for is built.
+fn is_built(plan: &Plan) -> bool
+    ensures { result ≡ is_built plan.now.project }
+{
+    plan.project.channels == 0
 }
 
 /// Makes the package of the plan on the caller's thread. The picture file gets an item for each
@@ -88,6 +100,11 @@ pub fn make_alone<S: Source, V: Volume>(
         (V.reads volume.new (Picture 1)) (S.taken source.old) (S.taken source.new)) }
     ensures put { V.tells
         → OnOk result (V.put volume.new (Picture 1) ≡ counted (V.put volume.old (Picture 1)) (length (V.reads volume.new (Picture 1)))) }
+    // Each frame that the engine encoded is read back to its quantised coefficients down to the bit-planes that its cut
+    // keeps, within the limits; and whatever the source tells, each frame's codestream is within them.
+    ensures encoded { S.tells → OnOk result (AreEncodedFrames (S.file source.old) plan.now.project) }
+    ensures values { V.tells
+        → OnOk result (HasFrameItems plan.now.project plan.now.project.frames (V.reads volume.new (Picture 1))) }
     ensures report { IfOk result (λ report. report ≡ record { frames = plan.now.project.frames; kept = 0 }) }
     ensures source_untroubled { OnOk result (S.faults source.new ≡ S.faults source.old) }
     ensures volume_untroubled { OnOk result (V.faults volume.new ≡ V.faults volume.old) }
@@ -103,7 +120,7 @@ pub fn make_alone<S: Source, V: Volume>(
 
     // Where there is a package and no device fails, nothing but want of memory keeps it from being made.
     ensures complete { S.tells → IsTrue (is_built plan.now.project)
-        → IsSome (picture_of (S.file source.old) plan.now.project)
+        → IsOk (picture_of (S.file source.old) plan.now.project)
         → ¬ HasRisen (S.faults source.old) (S.faults source.new)
         → ¬ HasRisen (V.faults volume.old) (V.faults volume.new)
         → IfErr result IsOutOfMemory }
@@ -111,10 +128,12 @@ pub fn make_alone<S: Source, V: Volume>(
     if !is_built(plan) {
         return Err(MakeEnd::Unbuilt);
     }
+    let mut maker = FrameMaker::new(alloc, plan)?;
     let mut room = make_room(alloc, ROOM)?;
     volume.cut(PICTURE, 0)?;
-    copy_frames(alloc, plan, source, volume, room.as_mut_slice())?;
+    copy_frames(alloc, plan, &mut maker, source, volume, room.as_mut_slice())?;
     volume.sync(PICTURE)?;
+    encoded_frame_laws();
     Ok(Report {
         frames: plan.project.frames,
         kept: 0,

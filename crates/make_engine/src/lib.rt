@@ -5,7 +5,8 @@ mod engine;
 mod frame;
 mod item;
 mod outcome;
-mod ready;
+mod single;
 
 pub use engine::make_alone;
-pub use outcome::{BadWhy, FrameEnd, MakeEnd, Options, Report};
+pub use outcome::{FrameEnd, MakeEnd, Options, Report};
+pub use single::make_frame;

@@ -1,5 +1,6 @@
 ghost use Rattle.std.specs.Prelude.{◌≡◌};
 
+use frame_values::{BadWhy, CellEnd};
 use mast_base::{Bytes, NoMemory};
 use mast_world::Failed;
 use std::alloc::AllocError;
@@ -23,13 +24,6 @@ pub struct Report {
     pub kept: u32,
 }
 
-/// How a frame's input breaks its form.
-#[derive(Clone, Copy, Debug, PartialEq, Eq)]
-pub enum BadWhy {
-    /// It has more bytes than the limit of this part allows; part 0 is the whole.
-    Limit { part: u8, got: u64 },
-}
-
 /// Why a frame has no item.
 #[derive(Debug, Drop)]
 pub enum FrameEnd {
@@ -47,8 +41,25 @@ pub enum MakeEnd {
     StoreFault,
     /// The plan asks for what isn't built yet.
     Unbuilt,
-    /// There was no memory for the room that all frames share.
+    /// There was no memory for what all frames share.
     NoMemory,
+}
+
+impl FrameEnd {
+    ghost use Rattle.std.specs.Prelude.{◌≡◌};
+    ghost use Rattle.make_engine.specs.Ends.{frame_end};
+
+    /// The end of a frame whose cell shows nothing.
+    pub(crate) fn of_cell(frame: u32, end: CellEnd) -> Self
+        ensures { result ≡ frame_end frame end }
+    {
+        match end {
+            CellEnd::Missing { name } => FrameEnd::Missing { name },
+            CellEnd::Bad { why } => FrameEnd::Bad { frame, why },
+            CellEnd::SourceFault => FrameEnd::SourceFault,
+            CellEnd::NoMemory => FrameEnd::NoMemory,
+        }
+    }
 }
 
 impl From<NoMemory> for FrameEnd {
@@ -73,18 +84,6 @@ impl From<AllocError> for FrameEnd {
     }
 }
 
-impl From<Failed> for FrameEnd {
-    ghost use Rattle.std.specs.Prelude.{◌≡◌};
-    ghost use Rattle.make_engine.specs.declared.outcome.FrameEnd.TheVariants.{SourceFault};
-
-    ghost from_gives = { λ _ end. end ≡ SourceFault };
-
-    // What fails where a frame is read is the source.
-    fn from(_fault: Failed) -> Self {
-        FrameEnd::SourceFault
-    }
-}
-
 impl From<Failed> for MakeEnd {
     ghost use Rattle.std.specs.Prelude.{◌≡◌};
     ghost use Rattle.make_engine.specs.declared.outcome.MakeEnd.TheVariants.{StoreFault};
@@ -105,6 +104,17 @@ impl From<FrameEnd> for MakeEnd {
 
     fn from(end: FrameEnd) -> Self {
         MakeEnd::Frame(end)
+    }
+}
+
+impl From<NoMemory> for MakeEnd {
+    ghost use Rattle.std.specs.Prelude.{◌≡◌};
+    ghost use Rattle.make_engine.specs.declared.outcome.MakeEnd.TheVariants as end;
+
+    ghost from_gives = { λ _ made. made ≡ end.NoMemory };
+
+    fn from(_error: NoMemory) -> Self {
+        MakeEnd::NoMemory
     }
 }
 

@@ -2,7 +2,8 @@ use Rattle.std.proofs.Common.{ap, ◌∙◌, arith}
 use Rattle.std.proofs.lemmas.Result.{err_from_is_err_and}
 use Rattle.make_engine.specs.Causes.{IsCopyCause, IsOutOfMemory}
 use Rattle.make_engine.specs.declared.engine.TheConstants.{PICTURE}
-use Rattle.make_engine.proofs.Outcomes.{cause_of, copy_left, ended_by, made}
+use Rattle.make_engine.proofs.Encoded.{encoded_frames}
+use Rattle.make_engine.proofs.Outcomes.{all_shown, cause_of, copy_left, ended_by, made}
 use Rattle.make_engine.proofs.engine.make_alone.Goals as goal
 
 pub returns-in_err-copy_frames-clause-complete : goal.returns-in_err-copy_frames-clause-complete
@@ -38,6 +39,36 @@ returns-clause-beside g c =
     let copied = c.copy_frames.ensures.beside in
     let before = c.in_ok-cut.ensures.faults in
     let behind = c.in_ok-sync.ensures.faults in
+    record {
+      same_reads = λ file other.
+          ap (λ reads. reads file) c.sync.ensures.same_reads ∙ copied.same_reads file other ∙ c.cut.ensures.other_reads file other;
+      same_put = λ file other. ap (λ put. put file) c.sync.ensures.same_put ∙ copied.same_put file other ∙ ap (λ put. put file) c.cut.ensures.same_put;
+      faults_kept = omega (arith, before, behind, copied.faults_kept);
+    }
+
+pub returns-clause-encoded : goal.returns-clause-encoded
+returns-clause-encoded g c = λ tells.
+    let files = g.S.Source.file c.args.source.now in
+    let project = c.args.plan.now.project in
+    let copied = c.in_ok-copy_frames.ensures.copied tells in
+    encoded_frames files project copied.frames c.encoded_frame_laws.ensures c.args.plan.now.rules
+    (all_shown g.V.Volume.tells files project _ _ _ copied)
+
+pub returns-in_err-copy_frames-clause-beside : goal.returns-in_err-copy_frames-clause-beside
+returns-in_err-copy_frames-clause-beside g c =
+    let copied = c.copy_frames.ensures.beside in
+    let before = c.in_ok-cut.ensures.faults in
+    record {
+      same_reads = λ file other. copied.same_reads file other ∙ c.cut.ensures.other_reads file other;
+      same_put = λ file other. copied.same_put file other ∙ ap (λ put. put file) c.cut.ensures.same_put;
+      faults_kept = omega (arith, before, copied.faults_kept);
+    }
+
+pub returns-in_err-sync-clause-beside : goal.returns-in_err-sync-clause-beside
+returns-in_err-sync-clause-beside g c =
+    let copied = c.copy_frames.ensures.beside in
+    let before = c.in_ok-cut.ensures.faults in
+    let behind = c.in_err-sync.ensures.faults in
     record {
       same_reads = λ file other.
           ap (λ reads. reads file) c.sync.ensures.same_reads ∙ copied.same_reads file other ∙ c.cut.ensures.other_reads file other;

@@ -1,0 +1,4 @@
+mod Cells
+mod Reading
+mod Showing
+mod Tasks

@@ -1,0 +1,10 @@
+//! Frames: read where they lie ready, encoded from raw pictures and black.
+#![tactic(auto)]
+
+mod encoding;
+mod maker;
+mod names;
+mod raw;
+mod ready;
+
+pub use maker::FrameMaker;

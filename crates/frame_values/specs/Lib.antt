@@ -1,0 +1,4 @@
+pub mod Causes
+pub mod Encoded
+pub mod Ready
+pub mod Shown
