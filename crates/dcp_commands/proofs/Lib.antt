@@ -1,4 +1,6 @@
+mod Framing
 mod Making
+mod Numbers
 mod Printing
 mod Reading
 mod Running

@@ -1,6 +1,7 @@
 -- How a run of `make` ends, from how its parts end.
-use Rattle.std.proofs.Common.{◌≡◌, ◌≢◌, ℕ, ◌+◌, ◌≤◌, Bool, true, false, cond, List, length, Some, None, Ok, Err, refl, inl, inr, ap, sym, subst, ◌∙◌}
-use Rattle.std.specs.Prelude.{◌⊎◌, IsFalse, IsSome, IsSomeAnd, IfErr, OnOk, Option, Result}
+use Rattle.std.proofs.Common.{◌≡◌, ◌≢◌, ℕ, ◌+◌, ◌≤◌, Bool, true, false, cond, List, length, Some, None, Ok, Err, refl, inl, inr, ap, sym, subst, ◌∙◌, arith}
+use Rattle.std.specs.Result.{result_ok}
+use Rattle.std.specs.Prelude.{◌⊎◌, IsFalse, IsTrue, IsOk, IsSome, IsSomeAnd, IfErr, OnOk, Option, Result}
 use Rattle.film_project.specs.Facts.{ProjectFacts}
 use Rattle.film_project.specs.declared.refusal.ProjectRefusal.{ProjectRefusal}
 use Rattle.film_project.specs.declared.refusal.ProjectRefusal.TheVariants as project
@@ -9,9 +10,7 @@ use Rattle.film_inputs.specs.Inputs.{planned}
 use Rattle.film_inputs.specs.declared.ends.InputEnd.TheVariants as input
 use Rattle.film_inputs.specs.declared.ends.PlanEnd.{PlanEnd}
 use Rattle.film_inputs.specs.declared.ends.PlanEnd.TheVariants as of_plan
-use Rattle.make_engine.proofs.Frames.{counted-counted}
-use Rattle.make_engine.proofs.Outcomes.{frame_cause, frame_left, not_some}
-use Rattle.make_engine.specs.Causes.{IsMakeCause}
+use Rattle.make_engine.specs.Causes.{IsFrameCause, IsMakeCause, IsOutOfMemory}
 use Rattle.make_engine.specs.Engine.{IsMade}
 use Rattle.make_engine.specs.Package.{is_built, picture_of}
 use Rattle.make_engine.specs.declared.outcome.FrameEnd.{FrameEnd}
@@ -30,6 +29,24 @@ use Rattle.dcp_commands.specs.declared.stopped.Stopped.{Stopped}
 use Rattle.dcp_commands.specs.declared.stopped.Stopped.TheVariants as stop
 use Rattle.dcp_commands.specs.declared.status.Status.{Status}
 use Rattle.dcp_commands.specs.declared.status.Status.TheVariants.{Done, Usage, ProjectRefused, SourceFault, SinkFault, NoMemory, Unbuilt}
+
+not_some : {A : Type 0} (o : Option A) → IsSome o → o ≡ None → ⊥
+not_some None some none = absurd (cc)
+not_some (Some a) some none = cc
+
+ok_where : {T E : Type 0} (r : Result T E) → IsSome (result_ok r) → IsOk r
+ok_where (Ok x) some = refl
+ok_where (Err end) some = absurd (cc)
+
+counted-counted : (c a b : ℕ) → counted (counted c a) b ≡ counted c (a + b)
+counted-counted c a b = omega arith
+
+-- what is known of the error that a call hands up, and of the error itself
+pub ended_by : {T E : Type 0} (r : Result T E) (made end : E) (P : E → Type 0) → r ≡ Err made → made ≡ end → P end → IfErr r P
+ended_by r made end P is same holds = subst (λ r. IfErr r P) (sym (is ∙ ap Err same)) holds
+
+pub cause_of : {T E : Type 0} (r : Result T E) (end : E) (P : E → Type 0) → r ≡ Err end → IfErr r P → P end
+cause_of r end P is holds = subst (λ r. IfErr r P) is holds
 
 -- ---- what the words and the files lead to
 
@@ -79,7 +96,7 @@ packaged volume_tells files words asked project text picture before between now 
     record {
       made = it.made;
       size = length text + it.size;
-      is = rw of_project it.shown;
+      is = rw of_project (ap result_ok it.shown);
       read = rw (of_text, of_project, it.read) refl;
       written = it.written;
       taken = it.taken ∙ ap (λ n. counted n it.size) first ∙ counted-counted before (length text) it.size;
@@ -93,7 +110,7 @@ IsOrdinary SinkFault = ⊥
 IsOrdinary status = Unit {0}
 
 -- a refusal is want of memory, or has a status of its own
-told_apart : (refusal : ProjectRefusal) → (refusal ≡ project.NoMemory) ⊎ ((refusal ≢ project.NoMemory) × (refused_status refusal ≡ ProjectRefused refusal))
+pub told_apart : (refusal : ProjectRefusal) → (refusal ≡ project.NoMemory) ⊎ ((refusal ≢ project.NoMemory) × (refused_status refusal ≡ ProjectRefused refusal))
 told_apart project.NotJson = inr (λ e. cc, refl)
 told_apart (project.NotObject name) = inr (λ e. cc, refl)
 told_apart (project.MissingMember name) = inr (λ e. cc, refl)
@@ -133,6 +150,11 @@ ordinary (stop.Read (of_read.TooLong size)) = tt
 ordinary (stop.Read (of_read.Bad refusal)) = tt
 ordinary (stop.Read of_read.Fault) = tt
 ordinary (stop.Read of_read.NoMemory) = tt
+ordinary (stop.Frame (of_frame.Missing name)) = tt
+ordinary (stop.Frame (of_frame.Bad frame why)) = tt
+ordinary (stop.Frame of_frame.SourceFault) = tt
+ordinary (stop.Frame of_frame.NoMemory) = tt
+ordinary (stop.NoSuchFrame frame frames) = tt
 ordinary stop.NoMemory = tt
 
 pub never_done : (stopped : Stopped) → stopped_status stopped ≡ Done → ⊥
@@ -155,6 +177,16 @@ package_told volume_tells files words picture before now wanted it is =
 
 -- ---- causes
 
+-- a frame's cause, as it is seen from an earlier state of the source
+frame_cause :
+    {A : Type 0} (tells : Type 0) (files : Files) (project : ProjectFacts) (absent faults : A → ℕ) (before between now : A) (end : FrameEnd) →
+    absent before ≤ absent between → faults before ≤ faults between →
+    IsFrameCause tells files project absent faults between now end → IsFrameCause tells files project absent faults before now end
+frame_cause tells files project absent faults before between now (of_frame.Missing name) fewer less is = (is.0, omega (arith, is.1))
+frame_cause tells files project absent faults before between now (of_frame.Bad f why) fewer less is = is
+frame_cause tells files project absent faults before between now of_frame.SourceFault fewer less is = omega (arith, is)
+frame_cause tells files project absent faults before between now of_frame.NoMemory fewer less is = tt
+
 -- why no package was made, as it is seen from an earlier state of the source
 pub make_cause :
     {A B : Type 0} (tells : Type 0) (files : Files) (project : ProjectFacts) (absent faults : A → ℕ) (before between now : A)
@@ -167,6 +199,20 @@ make_cause tells files project absent faults before between now reads put store_
 make_cause tells files project absent faults before between now reads put store_faults volume volume_now of_make.StoreFault fewer less is = is
 make_cause tells files project absent faults before between now reads put store_faults volume volume_now of_make.Unbuilt fewer less is = is
 make_cause tells files project absent faults before between now reads put store_faults volume volume_now of_make.NoMemory fewer less is = is
+
+-- where nothing else is in the way, want of memory is left, also as it is seen from an earlier state of the source
+pub left_by :
+    {A B : Type 0} (tells : Type 0) (files between_files : Files) (project : ProjectFacts) (faults : A → ℕ) (before between now : A)
+    (store_faults : B → ℕ) (volume volume_now : B) (made : Result Report MakeEnd) (end : MakeEnd) →
+    between_files ≡ files → faults before ≤ faults between → made ≡ Err end →
+    (tells → IsTrue (is_built project) → IsOk (picture_of between_files project) → ¬ HasRisen (faults between) (faults now) →
+    ¬ HasRisen (store_faults volume) (store_faults volume_now) → IfErr made IsOutOfMemory) →
+    tells → IsTrue (is_built project) → IsOk (picture_of files project) → ¬ HasRisen (faults before) (faults now) →
+    ¬ HasRisen (store_faults volume) (store_faults volume_now) → IsOutOfMemory end
+left_by tells files between_files project faults before between now store_faults volume volume_now made end same less was complete told on ok calm still =
+    let seen : IsOk (picture_of between_files project) = subst (λ files. IsOk (picture_of files project)) (sym same) ok in
+    let calmer : ¬ HasRisen (faults between) (faults now) = λ risen. calm (omega (arith, risen, less)) in
+    cause_of made end IsOutOfMemory was (complete told on seen calmer still)
 
 module _ {A B C : Type 0} (tells : Type 0) (files : Files) (words : List (List ℕ)) (absent faults : A → ℕ) (before now : A)
     (reads : B → FileId → List ℕ) (put : B → FileId → ℕ) (store_faults : B → ℕ) (volume volume_now : B) (sink_faults : C → ℕ) (out out_now : C) where
@@ -219,6 +265,8 @@ module _ {A B C : Type 0} (tells : Type 0) (files : Files) (words : List (List �
       (λ told. checked_unbuilt files words is.asked is.project is.accepted (is.told told) is.cause.0, is.cause.1)
   stop_cause (stop.Make of_make.NoMemory) is = tt
   stop_cause (stop.Read end) is = absurd is
+  stop_cause (stop.Frame end) is = absurd is
+  stop_cause (stop.NoSuchFrame frame frames) is = absurd is
   stop_cause stop.NoMemory is = tt
 
   -- what is printed is answered
@@ -257,6 +305,8 @@ module _ {A B C : Type 0} (tells : Type 0) (files : Files) (words : List (List �
       early_told Unbuilt Unbuilt wanted refl (checked_unbuilt files words is.asked is.project is.accepted (is.told told) is.cause.0) wants
   stop_told (stop.Make of_make.NoMemory) wanted told is wants = inr (inr refl)
   stop_told (stop.Read end) wanted told is wants = absurd is
+  stop_told (stop.Frame end) wanted told is wants = absurd is
+  stop_told (stop.NoSuchFrame frame frames) wanted told is wants = absurd is
   stop_told stop.NoMemory wanted told is wants = inr (inr refl)
 
   -- where there is a package and no count of faults rose, want of memory is left
@@ -269,8 +319,18 @@ module _ {A B C : Type 0} (tells : Type 0) (files : Files) (words : List (List �
     | inr other ↦ early_left _ _ (is other.0) some
   ]
 
-  frame_end_left : (end : FrameEnd) → end ≡ of_frame.NoMemory → stopped_status (stop.Make (of_make.Frame end)) ≡ NoMemory
-  frame_end_left end is = ap (λ end. stopped_status (stop.Make (of_make.Frame end))) is
+  memory_left : (end : MakeEnd) → IsOutOfMemory end → stopped_status (stop.Make end) ≡ NoMemory
+  memory_left end (inl is) = ap (λ end. stopped_status (stop.Make end)) is
+  memory_left end (inr is) = ap (λ end. stopped_status (stop.Make end)) is
+
+  make_left :
+      (end : MakeEnd) → (end ≡ of_make.Unbuilt → ⊥) → (is : MakeStops end) → tells → IsSome (package_of files words) → ¬ HasRisen (faults before) (faults now) →
+      ¬ HasRisen (store_faults volume) (store_faults volume_now) → stopped_status (stop.Make end) ≡ NoMemory
+  make_left end other is told some calm still =
+      let whole = stop_built end other is told in
+      let same : package_of files words ≡ result_ok (picture_of files is.project) = rw whole refl in
+      let on = built_unless (is_built is.project) end other is.off in
+      memory_left end (is.left told on (ok_where (picture_of files is.project) (subst (λ picture. IsSome picture) same some)) calm still)
 
   pub stop_left :
       (stopped : Stopped) → tells → IsSome (package_of files words) → ¬ HasRisen (faults before) (faults now) → ¬ HasRisen (store_faults volume) (store_faults volume_now) →
@@ -285,15 +345,14 @@ module _ {A B C : Type 0} (tells : Type 0) (files : Files) (words : List (List �
   stop_left (stop.Plan (of_plan.Plan (short.InputShort asset size need))) told some calm still is =
       early_left _ _ (checked_ends files words is.asked (of_plan.Plan (short.InputShort asset size need)) is.accepted (is.cause.1 told)) some
   stop_left (stop.Plan (of_plan.Plan short.NoMemory)) told some calm still is = refl
-  stop_left (stop.Make (of_make.Frame end)) told some calm still is =
-      let whole = stop_built (of_make.Frame end) (λ e. cc) is told in
-      let same : package_of files words ≡ picture_of files is.project = rw whole refl in
-      frame_end_left end (frame_left told files is.project absent faults before now end (subst (λ picture. IsSome picture) same some) calm is.cause)
+  stop_left (stop.Make (of_make.Frame end)) told some calm still is = make_left (of_make.Frame end) (λ e. cc) is told some calm still
   stop_left (stop.Make of_make.StoreFault) told some calm still is = absurd (still is.cause)
   stop_left (stop.Make of_make.Unbuilt) told some calm still is =
       early_left Unbuilt Unbuilt (checked_unbuilt files words is.asked is.project is.accepted (is.told told) is.cause.0) some
   stop_left (stop.Make of_make.NoMemory) told some calm still is = refl
   stop_left (stop.Read end) told some calm still is = absurd is
+  stop_left (stop.Frame end) told some calm still is = absurd is
+  stop_left (stop.NoSuchFrame frame frames) told some calm still is = absurd is
   stop_left stop.NoMemory told some calm still is = refl
 
   -- ---- what an outcome and its printed answer lead to

@@ -33,6 +33,8 @@ module _ {A C : Type 0} (tells : Type 0) (files : Files) (name : List ℕ) (abse
   stop_cause (stop.Read (of_read.Bad refusal)) is = (is.0, λ tell. ap lines_of (is.1 tell))
   stop_cause (stop.Read of_read.Fault) is = is
   stop_cause (stop.Read of_read.NoMemory) is = tt
+  stop_cause (stop.Frame end) is = absurd is
+  stop_cause (stop.NoSuchFrame frame frames) is = absurd is
   stop_cause stop.NoMemory is = tt
 
   answered : (result status : Status) → Answers result status → (result ≡ SinkFault → Rose) → Causes status → Causes result
@@ -60,6 +62,8 @@ module _ {A C : Type 0} (tells : Type 0) (files : Files) (name : List ℕ) (abse
   stop_told (stop.Read (of_read.Bad refusal)) tell is = inl (sym (ap (λ r. status_in (lines_of r)) (is.1 tell)))
   stop_told (stop.Read of_read.Fault) tell is = inr (inl refl)
   stop_told (stop.Read of_read.NoMemory) tell is = inr (inr refl)
+  stop_told (stop.Frame end) tell is = absurd is
+  stop_told (stop.NoSuchFrame frame frames) tell is = absurd is
   stop_told stop.NoMemory tell is = inr (inr refl)
 
   pub outcome_told :
@@ -83,6 +87,8 @@ module _ {A C : Type 0} (tells : Type 0) (files : Files) (name : List ℕ) (abse
   stop_left (stop.Read (of_read.Bad refusal)) tell ok calm is = absurd (end_left (of_read.Bad refusal) (read_answer files name) ok (ap lines_of (is.1 tell)))
   stop_left (stop.Read of_read.Fault) tell ok calm is = absurd (calm is)
   stop_left (stop.Read of_read.NoMemory) tell ok calm is = refl
+  stop_left (stop.Frame end) tell ok calm is = absurd is
+  stop_left (stop.NoSuchFrame frame frames) tell ok calm is = absurd is
   stop_left stop.NoMemory tell ok calm is = refl
 
   pub outcome_left :

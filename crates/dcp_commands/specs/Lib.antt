@@ -1,3 +1,4 @@
+pub mod Frame
 pub mod Line
 pub mod Make
 pub mod Plan

@@ -1,13 +1,16 @@
 -- What `make` makes, and why it ends so, status by status.
-use Rattle.std.specs.Prelude.{◌≡◌, ◌⊎◌, ℕ, ◌+◌, ◌<◌, List, length, if◌then◌else◌, IsFalse, Option, Some, None, option_map, option_and_then, Result, Ok, Err, ⊤}
+use Rattle.std.specs.Prelude.{◌≡◌, ◌⊎◌, ℕ, ◌+◌, ◌<◌, List, length, if◌then◌else◌, IsTrue, IsFalse, IsOk, Option, Some, None, option_map, option_and_then, Result, Ok, Err, ⊤}
+use Rattle.std.specs.Result.{result_ok}
 use Rattle.film_project.specs.Facts.{ProjectFacts}
 use Rattle.film_project.specs.Rules.{IsProject}
+use Rattle.frame_values.specs.Causes.{AreEncodedFrames}
+use Rattle.frame_values.specs.declared.ends.BadWhy.{BadWhy}
 use Rattle.film_inputs.specs.Causes.{IsInputName, IsPlanCause}
 use Rattle.film_inputs.specs.Inputs.{planned}
 use Rattle.film_inputs.specs.declared.ends.PlanEnd.{PlanEnd}
-use Rattle.make_engine.specs.Causes.{IsBadFrame, IsMakeCause, IsMissingFrame}
+use Rattle.make_engine.specs.Causes.{IsBadFrame, IsMakeCause, IsMissingFrame, IsOutOfMemory}
+use Rattle.make_engine.specs.Engine.{HasFrameItems}
 use Rattle.make_engine.specs.Package.{frames_size, is_built, picture_of}
-use Rattle.make_engine.specs.declared.outcome.BadWhy.{BadWhy}
 use Rattle.make_engine.specs.declared.outcome.MakeEnd.{MakeEnd}
 use Rattle.make_engine.specs.declared.outcome.MakeEnd.TheVariants as of_make
 use Rattle.mast_world.specs.Changes.{IsUnwritten}
@@ -20,7 +23,7 @@ use Rattle.dcp_commands.specs.Words.{MakeWords, make_words}
 use Rattle.dcp_commands.specs.declared.stopped.Stopped.{Stopped}
 use Rattle.dcp_commands.specs.declared.stopped.Stopped.TheVariants as stop
 use Rattle.dcp_commands.specs.declared.status.Status.{Status}
-use Rattle.dcp_commands.specs.declared.status.Status.TheVariants.{Done, Usage, ProjectRefused, InputMissing, InputShort, SourceFault, StoreFault, SinkFault, NoMemory, BadFrame, BadStream, InputTooLong, Unbuilt}
+use Rattle.dcp_commands.specs.declared.status.Status.TheVariants.{Done, Usage, ProjectRefused, InputMissing, InputShort, SourceFault, StoreFault, SinkFault, NoMemory, BadFrame, NoSuchFrame, BadStream, InputTooLong, Unbuilt}
 
 -- ---- what the words and the files lead to
 
@@ -46,7 +49,7 @@ project_of files words = of_checked (checked files words)
 
 -- the picture file of the package that the words ask for
 abbrev pub package_of : Files → List (List ℕ) → Option (List ℕ)
-package_of files words = option_and_then (picture_of files) (project_of files words)
+package_of files words = option_and_then (λ project. result_ok (picture_of files project)) (project_of files words)
 
 abbrev pub frames_of : Files → List (List ℕ) → Option ℕ
 frames_of files words = option_map (λ project. project.frames) (project_of files words)
@@ -58,7 +61,7 @@ text_of files words = option_and_then (λ asked. files asked.project) (make_word
 -- how many bytes of input the package has: the project file and those of the frames
 abbrev pub input_size : Files → List (List ℕ) → Option ℕ
 input_size files words =
-    option_and_then (λ text. option_map (λ n. length text + n) (option_and_then (frames_size files) (project_of files words))) (text_of files words)
+    option_and_then (λ text. option_map (λ n. length text + n) (option_and_then (λ project. result_ok (frames_size files project)) (project_of files words))) (text_of files words)
 
 -- the package was made, and all its input was read
 pub record IsPackage (volume_tells : Type 0) (files : Files) (words : List (List ℕ)) (picture : List ℕ) (taken_before taken_now : ℕ) : Type 0 where
@@ -68,6 +71,18 @@ pub record IsPackage (volume_tells : Type 0) (files : Files) (words : List (List
   pub read : input_size files words ≡ Some size
   pub written : volume_tells → picture ≡ made
   pub taken : taken_now ≡ counted taken_before size
+
+-- each frame that was encoded is read back to its quantised coefficients down to the bit-planes that its cut keeps, within the limits
+pub record HasEncodedFrames (files : Files) (words : List (List ℕ)) : Type 0 where
+  pub project : ProjectFacts
+  pub is : project_of files words ≡ Some project
+  pub encoded : AreEncodedFrames files project
+
+-- whatever the source tells, the picture file is the items of a project's frames, each codestream within its limits
+pub record IsPictureFile (picture : List ℕ) : Type 0 where
+  pub project : ProjectFacts
+  pub rules : IsProject project
+  pub items : HasFrameItems project project.frames picture
 
 -- the text of `Done`: that of the project's frames, of which none was kept
 pub record IsMadeText (tells : Type 0) (files : Files) (words : List (List ℕ)) (text : List ℕ) : Type 0 where
@@ -120,6 +135,7 @@ module _ {A B : Type 0} (tells : Type 0) (files : Files) (words : List (List ℕ
   IsCause sink_faults out out_now SinkFault = HasRisen (sink_faults out) (sink_faults out_now)
   IsCause sink_faults out out_now NoMemory = ⊤
   IsCause sink_faults out out_now (BadFrame frame why) = IsBadInProject tells files words frame why
+  IsCause sink_faults out out_now (NoSuchFrame frame frames) = ⊥
   IsCause sink_faults out out_now (BadStream refusal) = ⊥
   IsCause sink_faults out out_now (InputTooLong size) = ⊥
   IsCause sink_faults out out_now Unbuilt = IsEarly Unbuilt
@@ -140,6 +156,8 @@ module _ {A B : Type 0} (tells : Type 0) (files : Files) (words : List (List ℕ
     pub told : tells → planned files asked.project ≡ Ok project
     pub off : IsFalse (is_built project) → end ≡ of_make.Unbuilt
     pub cause : IsMakeCause tells files project absent faults before now reads put store_faults volume volume_now end
+    pub left : tells → IsTrue (is_built project) → IsOk (picture_of files project)
+        → ¬ HasRisen (faults before) (faults now) → ¬ HasRisen (store_faults volume) (store_faults volume_now) → IsOutOfMemory end
 
   -- why there is no text of `Done`
   abbrev pub IsStop : Stopped → Type 0
@@ -147,4 +165,6 @@ module _ {A B : Type 0} (tells : Type 0) (files : Files) (words : List (List ℕ
   IsStop (stop.Plan end) = IsPlanStop end
   IsStop (stop.Make end) = IsMakeStop end
   IsStop (stop.Read end) = ⊥
+  IsStop (stop.Frame end) = ⊥
+  IsStop (stop.NoSuchFrame frame frames) = ⊥
   IsStop stop.NoMemory = ⊤

@@ -16,7 +16,7 @@ use Rattle.film_inputs.specs.declared.ends.PlanEnd.{PlanEnd}
 use Rattle.dcp_commands.specs.declared.stopped.Stopped.{Stopped}
 use Rattle.dcp_commands.specs.declared.stopped.Stopped.TheVariants as stop
 use Rattle.dcp_commands.specs.declared.status.Status.{Status}
-use Rattle.dcp_commands.specs.declared.status.Status.TheVariants.{Done, Usage, ProjectRefused, InputMissing, InputShort, SourceFault, StoreFault, SinkFault, NoMemory, BadFrame, BadStream, InputTooLong, Unbuilt}
+use Rattle.dcp_commands.specs.declared.status.Status.TheVariants.{Done, Usage, ProjectRefused, InputMissing, InputShort, SourceFault, StoreFault, SinkFault, NoMemory, BadFrame, NoSuchFrame, BadStream, InputTooLong, Unbuilt}
 
 abbrev pub size_text : ProjectFacts → List ℕ
 size_text project =
@@ -27,9 +27,9 @@ abbrev pub limit_text : Limits → List ℕ
 limit_text limits = codes "limit " ++ (decimal limits.frame ++ (codes "\ncomponent " ++ (decimal limits.component ++ codes "\n")))
 
 abbrev pub count_text : List Cell → List ℕ
-count_text cells = codes "fresh " ++ (decimal (length (fresh_cells cells)) ++ (codes "\nblack " ++ decimal (length (filter is_black cells))))
+count_text cells = codes "fresh " ++ (decimal (length (fresh_cells cells)) ++ (codes "\nblack " ++ (decimal (length (filter is_black cells)) ++ codes "\n")))
 
--- its lines; the last one ends where the status' line ends
+-- its lines
 abbrev pub plan_text : ProjectFacts → List ℕ
 plan_text project = size_text project ++ limit_text (limits_of project) ++ count_text (cells_of project)
 
@@ -67,6 +67,8 @@ module _ {A : Type 0} (tells : Type 0) (files : Files) (words : List (List ℕ))
   IsStop (stop.Plan end) = IsPlanStop end
   IsStop (stop.Make end) = ⊥
   IsStop (stop.Read end) = ⊥
+  IsStop (stop.Frame end) = ⊥
+  IsStop (stop.NoSuchFrame frame frames) = ⊥
   IsStop stop.NoMemory = ⊤
 
   abbrev pub IsPlanned : Status → Type 0
@@ -89,6 +91,7 @@ module _ {A : Type 0} (tells : Type 0) (files : Files) (words : List (List ℕ))
   IsCause sink_faults out out_now NoMemory = ⊤
   IsCause sink_faults out out_now StoreFault = ⊥
   IsCause sink_faults out out_now (BadFrame frame why) = ⊥
+  IsCause sink_faults out out_now (NoSuchFrame frame frames) = ⊥
   IsCause sink_faults out out_now (BadStream refusal) = ⊥
   IsCause sink_faults out out_now (InputTooLong size) = ⊥
   IsCause sink_faults out out_now Unbuilt = ⊥

@@ -1,5 +1,5 @@
 -- What `read` prints of the file of a name, and why it ends so.
-use Rattle.std.specs.Prelude.{◌≡◌, ℕ, ◌<◌, List, Result, Ok, Err, ⊤}
+use Rattle.std.specs.Prelude.{◌≡◌, ℕ, ◌<◌, List, [], ◌∷◌, ◌++◌, Result, Ok, Err, ⊤}
 use Rattle.mast_world.specs.Content.{Files}
 use Rattle.mast_world.specs.Count.{HasRisen}
 use Rattle.stream_inspect.specs.Causes.{IsInspectCause, IsRefusalOf, IsToldOf}
@@ -11,10 +11,14 @@ use Rattle.dcp_commands.specs.Status.{read_status}
 use Rattle.dcp_commands.specs.declared.stopped.Stopped.{Stopped}
 use Rattle.dcp_commands.specs.declared.stopped.Stopped.TheVariants as stop
 use Rattle.dcp_commands.specs.declared.status.Status.{Status}
-use Rattle.dcp_commands.specs.declared.status.Status.TheVariants.{Done, Usage, ProjectRefused, InputMissing, InputShort, SourceFault, StoreFault, SinkFault, NoMemory, BadFrame, BadStream, InputTooLong, Unbuilt}
+use Rattle.dcp_commands.specs.declared.status.Status.TheVariants.{Done, Usage, ProjectRefused, InputMissing, InputShort, SourceFault, StoreFault, SinkFault, NoMemory, BadFrame, NoSuchFrame, BadStream, InputTooLong, Unbuilt}
+
+-- its lines
+abbrev pub read_text : Inspected → List ℕ
+read_text it = inspected_text it ++ 10 ∷ []
 
 abbrev pub lines_of : Result Inspected InspectEnd → Result (List ℕ) Status
-lines_of (Ok it) = Ok (inspected_text it)
+lines_of (Ok it) = Ok (read_text it)
 lines_of (Err end) = Err (read_status end)
 
 -- the lines of the file of this name, or how the command ends
@@ -25,7 +29,7 @@ read_answer files name = lines_of (inspected files name)
 pub record IsReadText (tells : Type 0) (files : Files) (name : List ℕ) (text : List ℕ) : Type 0 where
   pub it : Inspected
   pub of_bytes : IsToldOf it
-  pub is : text ≡ inspected_text it
+  pub is : text ≡ read_text it
   pub told : tells → inspected files name ≡ Ok it
 
 -- why `read` has no text, and why it ended so. Devices are given by what they tell and count, and by their states before and now.
@@ -35,6 +39,8 @@ module _ {A : Type 0} (tells : Type 0) (files : Files) (name : List ℕ) (absent
   IsStop (stop.Plan end) = ⊥
   IsStop (stop.Make end) = ⊥
   IsStop (stop.Read end) = IsInspectCause tells files name absent faults before now end
+  IsStop (stop.Frame end) = ⊥
+  IsStop (stop.NoSuchFrame frame frames) = ⊥
   IsStop stop.NoMemory = ⊤
 
   abbrev pub IsAnswer : Status → Type 0
@@ -54,4 +60,5 @@ module _ {A : Type 0} (tells : Type 0) (files : Files) (name : List ℕ) (absent
   IsCause sink_faults out out_now (InputShort asset size need) = ⊥
   IsCause sink_faults out out_now StoreFault = ⊥
   IsCause sink_faults out out_now (BadFrame frame why) = ⊥
+  IsCause sink_faults out out_now (NoSuchFrame frame frames) = ⊥
   IsCause sink_faults out out_now Unbuilt = ⊥

@@ -17,7 +17,7 @@ use Rattle.stream_inspect.specs.declared.ends.InspectEnd.TheVariants as of_read
 use Rattle.dcp_commands.specs.declared.stopped.Stopped.{Stopped}
 use Rattle.dcp_commands.specs.declared.stopped.Stopped.TheVariants as stop
 use Rattle.dcp_commands.specs.declared.status.Status.{Status}
-use Rattle.dcp_commands.specs.declared.status.Status.TheVariants.{Done, Usage, ProjectRefused, InputMissing, InputShort, SourceFault, StoreFault, SinkFault, NoMemory, BadFrame, BadStream, InputTooLong, Unbuilt}
+use Rattle.dcp_commands.specs.declared.status.Status.TheVariants.{Done, Usage, ProjectRefused, InputMissing, InputShort, SourceFault, StoreFault, SinkFault, NoMemory, BadFrame, NoSuchFrame, BadStream, InputTooLong, Unbuilt}
 
 abbrev pub input_status : InputEnd → Status
 input_status (input.Missing name) = InputMissing name
@@ -61,6 +61,8 @@ stopped_status stop.Usage = Usage
 stopped_status (stop.Plan end) = plan_status end
 stopped_status (stop.Make end) = make_status end
 stopped_status (stop.Read end) = read_status end
+stopped_status (stop.Frame end) = frame_status end
+stopped_status (stop.NoSuchFrame frame frames) = NoSuchFrame frame frames
 stopped_status stop.NoMemory = NoMemory
 
 -- the status of an outcome

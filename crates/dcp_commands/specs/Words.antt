@@ -1,6 +1,9 @@
 -- The words of a command.
-use Rattle.std.specs.Prelude.{ℕ, ◌==◌, ◌&&◌, codes, List, [], ◌∷◌, length, slice_index, Bool, not, nat_lt, if◌then◌else◌, Option, Some, None}
+use Rattle.std.specs.Prelude.{ℕ, ◌==◌, ◌&&◌, codes, List, [], ◌∷◌, length, slice_index, Bool, not, nat_le, nat_lt, if◌then◌else◌, Option, Some, None, option_map}
+use Rattle.std.specs.List.{list_all}
 use Rattle.std.specs.Str.{bytes_eq}
+use Rattle.std.specs.Str.Parse.{digits_value}
+use Rattle.film_project.specs.Texts.{is_digit}
 
 -- a word that is no option
 abbrev pub is_positional : List ℕ → Bool
@@ -25,3 +28,21 @@ plan_words words = None
 abbrev pub read_words : List (List ℕ) → Option (List ℕ)
 read_words (command ∷ file ∷ []) = if bytes_eq command (codes "read") && is_positional file then Some file else None
 read_words words = None
+
+-- one to nine digits
+abbrev pub is_number : List ℕ → Bool
+is_number word = nat_lt 0 (length word) && nat_le (length word) 9 && list_all is_digit word
+
+-- the number that they write
+abbrev pub number_in : List ℕ → Option ℕ
+number_in word = if is_number word then Some (digits_value 10 word) else None
+
+-- what `frame` is asked for: the name of the project file, and the number of a frame
+pub record FrameWords : Type 0 where
+  pub project : List ℕ
+  pub number : ℕ
+
+abbrev pub frame_words : List (List ℕ) → Option FrameWords
+frame_words (command ∷ project ∷ number ∷ []) =
+    if bytes_eq command (codes "frame") && is_positional project then option_map (λ n. record { project = project; number = n }) (number_in number) else None
+frame_words words = None

@@ -2,6 +2,7 @@
 #![tactic(auto)]
 
 mod command;
+mod frame;
 mod line;
 mod make;
 mod plan;

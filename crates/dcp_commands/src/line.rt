@@ -1,41 +1,69 @@
 ghost use Rattle.std.specs.Prelude.{◌≡◌, ◌≢◌, ◌++◌, Ok, codes, string_bytes, IfOk};
 ghost use Rattle.std.specs.Fmt.{decimal};
-ghost use Rattle.make_engine.specs.declared.outcome.BadWhy.TheVariants.{Limit};
 ghost use Rattle.mast_world.specs.Count.{HasRisen};
-ghost use Rattle.dcp_commands.specs.Line.{done_text, why_text, status_text, line_of, IsPrinted};
+ghost use Rattle.dcp_commands.specs.Line.{done_text, number_pair, why_text, status_text, line_of, IsPrinted};
 ghost use Rattle.dcp_commands.specs.Status.{Answers, status_of};
 
 use crate::status::Status;
 use crate::stopped::Stopped;
 use film_printer::refusal_text;
-use make_engine::{BadWhy, Report};
+use frame_values::BadWhy;
+use make_engine::Report;
 use mast_base::{Bytes, NoMemory};
 use mast_world::Sink;
 use std::alloc::{AllocError, Global};
 
-/// What `make` prints of a package, without the line's end.
+/// What `make` prints of a package.
 pub(crate) fn done_text(alloc: Global, report: Report) -> Result<Bytes, NoMemory>
     ensures { IfOk result (λ text. text ≡ done_text report.frames report.kept) }
 {
     let (frames, kept) = (report.frames, report.kept);
-    let text = format!(in alloc; "done: {frames} frames, {kept} kept")?;
+    let text = format!(in alloc; "done: {frames} frames, {kept} kept\n")?;
     Ok(Bytes::from(text.into_bytes()))
 }
 
-/// The fields of the one way in which an input breaks its form today.
-fn part_and_size(why: BadWhy) -> (u8, u64)
-    ensures { why ≡ Limit result.0 result.1 }
+/// Two numbers behind a word.
+fn pair_text(alloc: Global, front: &str, first: u64, second: u64) -> Result<Vec<u8>, NoMemory>
+    ensures { IfOk result (λ text. text.items ≡ front.now ++ number_pair first second) }
+{
+    Ok(format!(in alloc; "{front}{first} {second}")?.into_bytes())
+}
+
+fn header_text(alloc: Global, at: u64) -> Result<Vec<u8>, NoMemory>
+    ensures { IfOk result (λ text. text.items ≡ codes "header " ++ decimal at) }
+{
+    Ok(format!(in alloc; "header {at}")?.into_bytes())
+}
+
+fn why_text(alloc: Global, why: BadWhy) -> Result<Vec<u8>, NoMemory>
+    ensures { IfOk result (λ text. text.items ≡ why_text why) }
 {
     match why {
-        BadWhy::Limit { part, got } => (part, got),
+        BadWhy::Header { at } => header_text(alloc, at),
+        BadWhy::Short { size, need } => pair_text(alloc, "short ", size, need),
+        BadWhy::Stream { refusal } => {
+            let text = stream_inspect::refusal_text(alloc, refusal)?;
+            prefixed(alloc, b"stream ", text.as_slice())
+        }
+        BadWhy::Size { width, height } => {
+            pair_text(alloc, "size ", u64::from(width), u64::from(height))
+        }
+        BadWhy::Limit { part, got } => pair_text(alloc, "limit ", u64::from(part), got),
     }
 }
 
-fn bad_frame_text(alloc: Global, frame: u32, why: BadWhy) -> Result<String, AllocError>
-    ensures { IfOk result (λ text. string_bytes text ≡ codes "bad frame: " ++ (decimal frame ++ (codes " " ++ why_text why))) }
+fn bad_frame_text(alloc: Global, frame: u32, why: BadWhy) -> Result<Vec<u8>, NoMemory>
+    ensures { IfOk result (λ text. text.items ≡ codes "bad frame: " ++ (decimal frame ++ (codes " " ++ why_text why))) }
 {
-    let (part, got) = part_and_size(why);
-    format!(in alloc; "bad frame: {frame} limit {part} {got}")
+    let mut text = format!(in alloc; "bad frame: {frame} ")?.into_bytes();
+    text.extend_from_slice(why_text(alloc, why)?.as_slice())?;
+    Ok(text)
+}
+
+fn no_frame_text(alloc: Global, frame: u32, frames: u32) -> Result<Vec<u8>, NoMemory>
+    ensures { IfOk result (λ text. text.items ≡ codes "no such frame: " ++ (decimal frame ++ (codes " of " ++ decimal frames))) }
+{
+    Ok(format!(in alloc; "no such frame: {frame} of {frames}")?.into_bytes())
 }
 
 fn short_text(alloc: Global, asset: &[u8], size: u64, need: u64) -> Result<Vec<u8>, NoMemory>
@@ -79,7 +107,8 @@ fn status_text(alloc: Global, status: &Status, done: &[u8]) -> Result<Vec<u8>, N
         Status::StoreFault => Ok(b"store fault".to_vec(alloc)?),
         Status::SinkFault => Ok(Vec::new(alloc)),
         Status::NoMemory => Ok(b"no memory".to_vec(alloc)?),
-        Status::BadFrame { frame, why } => Ok(bad_frame_text(alloc, *frame, *why)?.into_bytes()),
+        Status::BadFrame { frame, why } => bad_frame_text(alloc, *frame, *why),
+        Status::NoSuchFrame { frame, frames } => no_frame_text(alloc, *frame, *frames),
         Status::BadStream { refusal } => {
             let text = stream_inspect::refusal_text(alloc, *refusal)?;
             prefixed(alloc, b"bad stream: ", text.as_slice())
@@ -89,16 +118,19 @@ fn status_text(alloc: Global, status: &Status, done: &[u8]) -> Result<Vec<u8>, N
     }
 }
 
+/// What is printed under a status: `done` as it is, or a line.
 fn line_of(alloc: Global, status: &Status, done: &[u8]) -> Result<Vec<u8>, NoMemory>
     ensures { IfOk result (λ line. line.items ≡ line_of done.now status.now) }
 {
     let mut line = status_text(alloc, status, done)?;
-    line.push(b'\n')?;
+    if !matches!(status, Status::Done) {
+        line.push(b'\n')?;
+    }
     Ok(line)
 }
 
-/// Prints how a command ended: the text that was made, or the line of the status that kept it from
-/// being made. It answers that status, or why it couldn't be printed.
+/// Prints how a command ended: the bytes that were made, or the line of the status that kept them
+/// from being made. It answers that status, or why it couldn't be printed.
 pub(crate) fn print<O: Sink>(alloc: Global, outcome: Result<Bytes, Stopped>, out: &mut O) -> Status
     ensures answer { Answers result (status_of outcome) }
     ensures printed { O.tells → IsPrinted (λ text. outcome ≡ Ok text) result (O.written out.old) (O.written out.new) }

@@ -3,7 +3,7 @@ ghost use Rattle.mast_world.specs.Changes.{IsSameBeside, IsSameSource};
 ghost use Rattle.mast_world.specs.Count.{HasRisen, counted};
 ghost use Rattle.mast_world.specs.declared.volume.FileId.TheVariants.{Picture};
 ghost use Rattle.dcp_commands.specs.Line.{IsPrinted};
-ghost use Rattle.dcp_commands.specs.Make.{IsCause, IsMadeText, IsPackage, IsStop, checked, package_of};
+ghost use Rattle.dcp_commands.specs.Make.{HasEncodedFrames, IsCause, IsMadeText, IsPackage, IsPictureFile, IsStop, checked, package_of};
 ghost use Rattle.dcp_commands.specs.Status.{Answers};
 ghost use Rattle.dcp_commands.specs.Words.{make_words};
 ghost use Rattle.dcp_commands.specs.declared.status.Status.{Status};
@@ -36,6 +36,8 @@ fn make_package<S: Source, V: Volume>(
         (V.reads volume.new (Picture 1)) (S.taken source.old) (S.taken source.new)) }
     ensures put { V.tells
         → OnOk result (V.put volume.new (Picture 1) ≡ counted (V.put volume.old (Picture 1)) (length (V.reads volume.new (Picture 1)))) }
+    ensures encoded { S.tells → OnOk result (HasEncodedFrames (S.file source.old) (map string_bytes words.now)) }
+    ensures values { V.tells → OnOk result (IsPictureFile (V.reads volume.new (Picture 1))) }
     ensures text { IfOk result (IsMadeText S.tells (S.file source.old) (map string_bytes words.now)) }
     ensures source_untroubled { OnOk result (S.faults source.new ≡ S.faults source.old) }
     ensures volume_untroubled { OnOk result (V.faults volume.new ≡ V.faults volume.old) }
@@ -69,6 +71,11 @@ pub fn run_make<S: Source, V: Volume, O: Sink>(
         (V.reads volume.new (Picture 1)) (S.taken source.old) (S.taken source.new) }
     ensures put { V.tells → result ≡ Status.Done
         → V.put volume.new (Picture 1) ≡ counted (V.put volume.old (Picture 1)) (length (V.reads volume.new (Picture 1))) }
+
+    // Each of its frames that was encoded is read back to its quantised coefficients down to the bit-planes that its cut
+    // keeps, within the limits; and whatever the source tells, each frame's codestream is within them.
+    ensures encoded { S.tells → result ≡ Status.Done → HasEncodedFrames (S.file source.old) (map string_bytes words.now) }
+    ensures values { V.tells → result ≡ Status.Done → IsPictureFile (V.reads volume.new (Picture 1)) }
 
     // Why it ended so, status by status; and the other way: words, project and inputs that end the command before a frame
     // is read do so, the first cause in their order.

@@ -31,10 +31,10 @@ fn count_text(alloc: Global, cells: &[Cell]) -> Result<String, AllocError>
 {
     let fresh = fresh_count(cells);
     let black = black_count(cells);
-    format!(in alloc; "fresh {fresh}\nblack {black}")
+    format!(in alloc; "fresh {fresh}\nblack {black}\n")
 }
 
-/// What `plan` prints of a plan, without the last line's end.
+/// What `plan` prints of a plan.
 pub(crate) fn plan_text(alloc: Global, plan: &Plan) -> Result<Bytes, NoMemory>
     ensures { IfOk result (λ text. text ≡ plan_text plan.now.project) }
 {

@@ -3,16 +3,25 @@ ghost use Rattle.mast_world.specs.Changes.{IsSameSource};
 ghost use Rattle.mast_world.specs.Count.{HasRisen};
 ghost use Rattle.dcp_commands.specs.Line.{IsPrinted};
 ghost use Rattle.dcp_commands.specs.Plan.{status_in};
-ghost use Rattle.dcp_commands.specs.Read.{IsCause, IsReadText, IsStop, read_answer};
+ghost use Rattle.dcp_commands.specs.Read.{IsCause, IsReadText, IsStop, read_answer, read_text};
 ghost use Rattle.dcp_commands.specs.Status.{Answers};
 
 use crate::line::print;
 use crate::status::Status;
 use crate::stopped::Stopped;
-use mast_base::Bytes;
+use mast_base::{Bytes, NoMemory};
 use mast_world::{Sink, Source};
 use std::alloc::Global;
-use stream_inspect::{inspect, inspected_text};
+use stream_inspect::{Inspected, inspect, inspected_text};
+
+/// What is told of a file, in five lines.
+fn read_text(alloc: Global, inspected: &Inspected) -> Result<Bytes, NoMemory>
+    ensures { IfOk result (λ text. text ≡ read_text inspected.now) }
+{
+    let mut text = inspected_text(alloc, inspected)?;
+    text.push(b'\n')?;
+    Ok(text)
+}
 
 /// What `read` prints of the codestream in the file of this name.
 fn show_stream<S: Source>(alloc: Global, name: &[u8], source: &mut S) -> Result<Bytes, Stopped>
@@ -22,7 +31,7 @@ fn show_stream<S: Source>(alloc: Global, name: &[u8], source: &mut S) -> Result<
     ensures kept { IsSameSource S.file S.absent S.taken S.faults source.old source.new }
 {
     let inspected = inspect(alloc, source, name)?;
-    Ok(inspected_text(alloc, &inspected)?)
+    Ok(read_text(alloc, &inspected)?)
 }
 
 /// Runs `read`: prints what a file's codestream holds.

@@ -3,7 +3,8 @@ use codec_terms::ReadRefusal;
 use film_inputs::{InputEnd, PlanEnd};
 use film_plan::PlanRefusal;
 use film_project::ProjectRefusal;
-use make_engine::{BadWhy, FrameEnd, MakeEnd};
+use frame_values::BadWhy;
+use make_engine::{FrameEnd, MakeEnd};
 use mast_base::Bytes;
 use stream_inspect::InspectEnd;
 
@@ -24,6 +25,8 @@ pub enum Status {
     SinkFault,
     NoMemory,
     BadFrame { frame: u32, why: BadWhy },
+    /// The project has only so many frames.
+    NoSuchFrame { frame: u32, frames: u32 },
     /// The bytes of the file are no codestream.
     BadStream { refusal: ReadRefusal },
     /// The file has more bytes than are read.
@@ -153,6 +156,8 @@ impl From<Stopped> for Status {
             Stopped::Plan(end) => end.into(),
             Stopped::Make(end) => end.into(),
             Stopped::Read(end) => end.into(),
+            Stopped::Frame(end) => end.into(),
+            Stopped::NoSuchFrame { frame, frames } => Status::NoSuchFrame { frame, frames },
             Stopped::NoMemory => Status::NoMemory,
         }
     }
@@ -177,6 +182,7 @@ impl Status {
             Status::SinkFault => 9,
             Status::NoMemory => 11,
             Status::BadFrame { .. } => 12,
+            Status::NoSuchFrame { .. } => 13,
             Status::BadStream { .. } => 14,
             Status::InputTooLong { .. } => 15,
             Status::Unbuilt => 17,

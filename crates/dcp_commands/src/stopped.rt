@@ -1,5 +1,5 @@
 use film_inputs::PlanEnd;
-use make_engine::MakeEnd;
+use make_engine::{FrameEnd, MakeEnd};
 use mast_base::NoMemory;
 use stream_inspect::InspectEnd;
 
@@ -11,6 +11,9 @@ pub(crate) enum Stopped {
     Plan(PlanEnd),
     Make(MakeEnd),
     Read(InspectEnd),
+    Frame(FrameEnd),
+    /// The project has fewer frames.
+    NoSuchFrame { frame: u32, frames: u32 },
     NoMemory,
 }
 
@@ -44,6 +47,17 @@ impl From<InspectEnd> for Stopped {
 
     fn from(end: InspectEnd) -> Self {
         Stopped::Read(end)
+    }
+}
+
+impl From<FrameEnd> for Stopped {
+    ghost use Rattle.std.specs.Prelude.{◌≡◌};
+    ghost use Rattle.dcp_commands.specs.declared.stopped.Stopped.TheVariants.{Frame};
+
+    ghost from_gives = { λ end stopped. stopped ≡ Frame end };
+
+    fn from(end: FrameEnd) -> Self {
+        Stopped::Frame(end)
     }
 }
 

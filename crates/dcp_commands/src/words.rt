@@ -1,5 +1,7 @@
 ghost use Rattle.std.specs.Prelude.{◌≡◌, map, option_map, string_bytes, IfOk};
-ghost use Rattle.dcp_commands.specs.Words.{MakeWords, is_positional, make_words, plan_words, read_words};
+ghost use Rattle.std.specs.List.{list_all};
+ghost use Rattle.film_project.specs.Texts.{is_digit};
+ghost use Rattle.dcp_commands.specs.Words.{FrameWords, MakeWords, frame_words, is_number, is_positional, make_words, number_in, plan_words, read_words};
 
 use mast_base::{Bytes, NoMemory};
 use std::alloc::Global;
@@ -11,6 +13,15 @@ pub(crate) struct Asked<'a> {
     pub(crate) project: &'a str,
     /// The output folder.
     pub(crate) out: &'a str,
+}
+
+/// What `frame` is asked for.
+#[derive(Clone, Copy, Debug)]
+pub(crate) struct AskedFrame<'a> {
+    /// The name of the project file.
+    pub(crate) project: &'a str,
+    /// The number of the frame.
+    pub(crate) number: u32,
 }
 
 fn is_positional(word: &str) -> bool
@@ -60,6 +71,52 @@ pub(crate) fn read_words(words: &[String]) -> Option<&str>
     } else {
         None
     }
+}
+
+fn is_digit(byte: u8) -> bool
+    ensures { result ≡ is_digit byte }
+{
+    b'0' <= byte && byte <= b'9'
+}
+
+fn are_digits(bytes: &[u8]) -> bool
+    ensures { result ≡ list_all is_digit bytes.now }
+{
+    bytes.iter().all(|byte| is_digit(*byte))
+}
+
+/// Whether the word is one to nine digits.
+fn is_number(word: &str) -> bool
+    ensures { result ≡ is_number word.now }
+{
+    let bytes = word.as_bytes();
+    !bytes.is_empty() && bytes.len() <= 9 && are_digits(bytes)
+}
+
+/// The number that one to nine digits write.
+fn number_in(word: &str) -> Option<u32>
+    ensures { result ≡ number_in word.now }
+{
+    if is_number(word) {
+        word.parse().ok()
+    } else {
+        None
+    }
+}
+
+/// The project and the frame that is to be shown.
+pub(crate) fn frame_words(words: &[String]) -> Option<AskedFrame<'_>>
+    ensures { option_map (λ asked. record { project = asked.project.now; number = asked.number }) result ≡ frame_words (map string_bytes words.now) }
+{
+    let [command, project, number] = words else {
+        return None;
+    };
+    let project = project.as_str();
+    if command.as_str() != "frame" || !is_positional(project) {
+        return None;
+    }
+    let number = number_in(number.as_str())?;
+    Some(AskedFrame { project, number })
 }
 
 /// The output folder that the words name, or `None` where they are no accepted `make`.

@@ -1,9 +1,5 @@
-//! Tests of the engine and its commands.
+//! Tests of the engine.
 #![tactic(auto)]
 
 #[cfg(test)]
-mod commands;
-#[cfg(test)]
 mod engine;
-#[cfg(test)]
-mod reads;

@@ -2,17 +2,16 @@
 use Rattle.std.proofs.Common.{◌≡◌, map, string_bytes, ap, sym, ◌∙◌, length}
 use Rattle.std.proofs.lemmas.Result.{err_from_is_err_and}
 use Rattle.film_inputs.specs.Inputs.{planned}
-use Rattle.make_engine.proofs.Outcomes.{cause_of, ended_by}
 use Rattle.make_engine.specs.Causes.{IsMakeCause}
 use Rattle.make_engine.specs.Package.{is_built}
 use Rattle.make_engine.specs.declared.outcome.Report.{Report}
 use Rattle.mast_world.specs.Count.{counted}
 use Rattle.mast_world.specs.declared.volume.FileId.TheVariants.{Picture}
 use Rattle.dcp_commands.specs.Line.{done_text}
-use Rattle.dcp_commands.specs.Make.{IsStop}
+use Rattle.dcp_commands.specs.Make.{IsStop, of_checked}
 use Rattle.dcp_commands.specs.Words.{MakeWords}
 use Rattle.dcp_commands.specs.declared.stopped.Stopped.TheVariants as stop
-use Rattle.dcp_commands.proofs.Making.{built, checked_built, frames_are, make_cause, packaged, some_text}
+use Rattle.dcp_commands.proofs.Making.{built, cause_of, checked_built, ended_by, frames_are, left_by, make_cause, packaged, some_text}
 use Rattle.dcp_commands.proofs.make.make_package.Goals as goal
 
 pub returns-in_err-report-clause-ended : goal.returns-in_err-report-clause-ended
@@ -44,6 +43,8 @@ returns-in_err-report-clause-ended g c =
       off = λ off. cc (c.in_err-report.was, c.make_alone.ensures.not_built off);
       cause = make_cause source.tells files project source.absent source.faults first between now volume.reads volume.put volume.faults c.args.volume.now last end
           kept.absent_kept kept.faults_kept (rw kept.same_files at why);
+      left = left_by source.tells files (source.file between) project source.faults first between now volume.faults c.args.volume.now last
+          c.make_alone.result end kept.same_files kept.faults_kept c.in_err-report.was c.make_alone.ensures.complete;
     })
 
 pub returns-clause-package : goal.returns-clause-package
@@ -74,3 +75,20 @@ returns-clause-text g c =
       is = c.in_ok-done_text.ensures ∙ ap (λ (report : Report). done_text report.frames report.kept) c.in_ok-report.ensures.report;
       told = λ tells. frames_are files words project (checked_built files words asked project (sym c.in-Some.ensures) (ap (planned files) (sym c.as_bytes.ensures.value) ∙ c.in_ok-plan.ensures.planned tells) on);
     }
+
+pub returns-clause-encoded : goal.returns-clause-encoded
+returns-clause-encoded g c = λ tells.
+    let files = g.S.Source.file c.args.source.now in
+    let words = map string_bytes c.args.words.now in
+    let project = c.in_ok-plan.plan.project in
+    let asked : MakeWords = record { project = c.in-Some.asked.project.now; out = c.in-Some.asked.out.now } in
+    let on = built (is_built project) c.make_alone.result c.in_ok-report.report c.in_ok-report.was c.make_alone.ensures.not_built in
+    let told = checked_built files words asked project (sym c.in-Some.ensures) (ap (planned files) (sym c.as_bytes.ensures.value) ∙ c.in_ok-plan.ensures.planned tells) on in
+    record {
+      project = project;
+      is = ap of_checked told;
+      encoded = rw c.in_ok-plan.ensures.kept.same_files at (c.in_ok-report.ensures.encoded tells);
+    }
+
+pub returns-clause-values : goal.returns-clause-values
+returns-clause-values g c = λ tells. record { project = c.in_ok-plan.plan.project; rules = c.in_ok-plan.plan.rules; items = c.in_ok-report.ensures.values tells }

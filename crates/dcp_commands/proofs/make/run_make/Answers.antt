@@ -1,6 +1,8 @@
 use Rattle.std.proofs.Common.{map, string_bytes}
 use Rattle.mast_world.specs.declared.volume.FileId.TheVariants.{Picture}
+use Rattle.dcp_commands.specs.Make.{IsMadeText}
 use Rattle.dcp_commands.proofs.Making.{outcome_cause, outcome_left, outcome_told}
+use Rattle.dcp_commands.proofs.Printing.{printed_of}
 use Rattle.dcp_commands.proofs.make.run_make.Goals as goal
 
 pub returns-clause-cause : goal.returns-clause-cause
@@ -34,3 +36,8 @@ returns-clause-complete g c = λ tells some calm still quiet.
     outcome_left source.tells (source.file c.args.source.now) (map string_bytes c.args.words.now) source.absent source.faults c.args.source.now made.new.source
     volume.reads volume.put volume.faults c.args.volume.now made.new.volume sink.faults c.args.out.now c.print.new.out
     c.print.result made.result tells some calm still quiet c.print.ensures.answer c.print.ensures.sink_fault made.ensures.ended
+
+pub returns-clause-printed : goal.returns-clause-printed
+returns-clause-printed g c = λ tells.
+    let made = c.make_package-outcome in
+    printed_of (IsMadeText g.S.Source.tells (g.S.Source.file c.args.source.now) (map string_bytes c.args.words.now)) made.result c.print.result (g.O.Sink.written c.args.out.now) (g.O.Sink.written c.print.new.out) made.ensures.text (c.print.ensures.printed tells)

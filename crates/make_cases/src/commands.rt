@@ -1,6 +1,7 @@
 //! Runs of the commands over devices in memory.
 
 use dcp_commands::{out_name, run, run_make};
+use empty_streams::marked;
 use mast_base::{Bytes, List};
 use mast_world::{FileId, MemFile, MemSink, MemSource, MemVolume};
 use std::alloc::{AllocError, Global};
@@ -104,6 +105,23 @@ fn push_file(
     Ok(())
 }
 
+/// A codestream with this letter in its comment.
+fn push_stream(
+    alloc: Global,
+    files: &mut List<MemFile>,
+    name: &str,
+    size: u64,
+    letter: u8,
+) -> Result<(), AllocError> {
+    files.push(MemFile {
+        name: Bytes::copy_of(alloc, name.as_bytes())?,
+        size,
+        fill: 0,
+        bytes: marked(alloc, letter)?,
+    })?;
+    Ok(())
+}
+
 /// The project file alone.
 fn project(alloc: Global, head: Head, lists: &str) -> Result<List<MemFile>, AllocError> {
     let text = text_of(alloc, head, lists)?;
@@ -151,22 +169,22 @@ fn feature(alloc: Global, sound: u64) -> Result<List<MemFile>, AllocError> {
 
 fn first_frame(alloc: Global, head: Head) -> Result<List<MemFile>, AllocError> {
     let mut files = project(alloc, head, OVERLAP)?;
-    push_file(alloc, &mut files, "s/000000.j2c", 205, 1)?;
+    push_stream(alloc, &mut files, "s/000000.j2c", 205, b'a')?;
     Ok(files)
 }
 
 fn overlap(alloc: Global, head: Head, last: u64) -> Result<List<MemFile>, AllocError> {
     let mut files = first_frame(alloc, head)?;
-    push_file(alloc, &mut files, "s/000001.j2c", 300, 2)?;
-    push_file(alloc, &mut files, "t/000005.j2c", 1000, 3)?;
-    push_file(alloc, &mut files, "t/000006.j2c", last, 4)?;
+    push_stream(alloc, &mut files, "s/000001.j2c", 205, b'b')?;
+    push_stream(alloc, &mut files, "t/000005.j2c", 205, b'c')?;
+    push_stream(alloc, &mut files, "t/000006.j2c", last, b'd')?;
     Ok(files)
 }
 
 fn hidden(alloc: Global, film: u64, sound: u64) -> Result<List<MemFile>, AllocError> {
     let mut files = project(alloc, Head { frames: 2, ..BASE }, HIDDEN)?;
-    push_file(alloc, &mut files, "s/000000.j2c", 205, 1)?;
-    push_file(alloc, &mut files, "s/000001.j2c", 205, 1)?;
+    push_stream(alloc, &mut files, "s/000000.j2c", 205, b'a')?;
+    push_stream(alloc, &mut files, "s/000001.j2c", 205, b'b')?;
     if film > 0 {
         push_file(alloc, &mut files, "a.rgb", film, 1)?;
     }
@@ -278,33 +296,31 @@ const KEY: [u8; 16] = [
     0x06, 0x0e, 0x2b, 0x34, 0x01, 0x02, 0x01, 0x01, 0x0d, 0x01, 0x03, 0x01, 0x15, 0x01, 0x08, 0x01,
 ];
 
-fn push_item(alloc: Global, picture: &mut Vec<u8>, size: u16, fill: u8) -> Result<(), AllocError> {
-    let [high, low] = size.to_be_bytes();
+/// The item of the codestream with this letter.
+fn push_item(alloc: Global, picture: &mut Vec<u8>, letter: u8) -> Result<(), AllocError> {
     picture.extend_from_slice(&KEY)?;
-    picture.extend_from_slice(&[0x83, 0, high, low])?;
-    picture.extend_from_slice(&Vec::from_elem(alloc, fill, usize::from(size))?)
+    picture.extend_from_slice(&[0x83, 0, 0, 205])?;
+    picture.extend_from_slice(marked(alloc, letter)?.as_slice())
 }
 
 fn picture_of_overlap(alloc: Global) -> Result<Vec<u8>, AllocError> {
     let mut picture = Vec::new(alloc);
-    push_item(alloc, &mut picture, 205, 1)?;
-    push_item(alloc, &mut picture, 300, 2)?;
-    push_item(alloc, &mut picture, 1000, 3)?;
-    push_item(alloc, &mut picture, 1000, 3)?;
-    push_item(alloc, &mut picture, 26_041, 4)?;
+    for letter in [b'a', b'b', b'c', b'c', b'd'] {
+        push_item(alloc, &mut picture, letter)?;
+    }
     Ok(picture)
 }
 
 #[test]
 fn frames_are_copied_in_order(rt: HostRuntime) -> Result<(), Fail> {
     let alloc = rt.alloc();
-    let ran = make_run(alloc, &MAKE, Given::Overlap(LEAST, 26_041), [0, 0, 0])?;
+    let ran = make_run(alloc, &MAKE, Given::Overlap(LEAST, 205), [0, 0, 0])?;
     expect_end(&rt, &ran.printed, "done: 5 frames, 0 kept\n", ran.exit, 0);
     let picture = picture_of_overlap(alloc)?;
     assert!(rt; ran.volume.bytes(PICTURE) == picture.as_slice());
     // The frame that is held is read once.
     let text = text_of(alloc, LEAST, OVERLAP)?.len() as u64;
-    assert_eq!(rt; ran.source.taken(), text + 27_546);
+    assert_eq!(rt; ran.source.taken(), text + 820);
     Ok(())
 }
 
@@ -337,24 +353,48 @@ fn make_names_the_input_that_is_wrong(rt: HostRuntime) -> Result<(), Fail> {
     expect_make(&rt, alloc, &MAKE, first, missing, 4, 225)?;
     let long = Given::Overlap(LEAST, 26_042);
     let bad = "bad frame: 4 limit 0 26042\n";
-    expect_make(&rt, alloc, &MAKE, long, bad, 12, 2585)?;
+    expect_make(&rt, alloc, &MAKE, long, bad, 12, 900)?;
+    let longest = Given::Overlap(LEAST, 26_041);
+    let bad = "bad frame: 4 stream S2 205\n";
+    expect_make(&rt, alloc, &MAKE, longest, bad, 12, 900)?;
     Ok(())
 }
 
-/// Raw pictures, a black frame, sound.
 #[test]
 fn make_tells_what_is_not_built(rt: HostRuntime) -> Result<(), Fail> {
     let alloc = rt.alloc();
-    let black = Head { frames: 6, ..LEAST };
     let sound = Head {
         channels: 1,
         ..LEAST
     };
-    let raw = Given::Rgb(442_368);
-    let (black, sound) = (Given::Overlap(black, 26_041), Given::Overlap(sound, 26_041));
-    expect_make(&rt, alloc, &MAKE, raw, "unbuilt\n", 17, 0)?;
-    expect_make(&rt, alloc, &MAKE, black, "unbuilt\n", 17, 0)?;
+    let sound = Given::Overlap(sound, 205);
     expect_make(&rt, alloc, &MAKE, sound, "unbuilt\n", 17, 0)?;
+    Ok(())
+}
+
+/// How long the item of a black frame is.
+const BLACK: usize = 232;
+
+/// A picture file of raw pictures of bytes 0, which are encoded as black frames are.
+fn black_pictures(rt: &impl Abort, alloc: Global) -> Result<Vec<u8>, AllocError> {
+    let ran = make_run(alloc, &MAKE, Given::Rgb(442_368), [0, 0, 0])?;
+    expect_end(rt, &ran.printed, "done: 24 frames, 0 kept\n", ran.exit, 0);
+    ran.volume.bytes(PICTURE).to_vec(alloc)
+}
+
+/// Each of them is encoded to the same, and so is a frame that no clip covers.
+#[test]
+fn raw_pictures_and_black_are_encoded(rt: HostRuntime) -> Result<(), Fail> {
+    let alloc = rt.alloc();
+    let picture = black_pictures(&rt, alloc)?;
+    assert_eq!(rt; picture.len(), 24 * BLACK);
+    let item = picture.get(..BLACK).unwrap_or(&[]);
+    let mut wanted = picture_of_overlap(alloc)?;
+    wanted.extend_from_slice(item)?;
+    let black = Given::Overlap(Head { frames: 6, ..LEAST }, 205);
+    let ran = make_run(alloc, &MAKE, black, [0, 0, 0])?;
+    expect_end(&rt, &ran.printed, "done: 6 frames, 0 kept\n", ran.exit, 0);
+    assert!(rt; ran.volume.bytes(PICTURE) == wanted.as_slice());
     Ok(())
 }
 
@@ -411,7 +451,7 @@ fn expect_fault(
     printed: &str,
     exit: u8,
 ) -> Result<(), AllocError> {
-    let ran = make_run(alloc, &MAKE, Given::Overlap(LEAST, 26_041), failing)?;
+    let ran = make_run(alloc, &MAKE, Given::Overlap(LEAST, 205), failing)?;
     expect_end(rt, &ran.printed, printed, ran.exit, exit);
     Ok(())
 }

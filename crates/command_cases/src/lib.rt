@@ -1,0 +1,7 @@
+//! Tests of the commands that write no folder.
+#![tactic(auto)]
+
+#[cfg(test)]
+mod frames;
+#[cfg(test)]
+mod reads;

@@ -1,0 +1,5 @@
+//! Tests of `make` and `plan`.
+#![tactic(auto)]
+
+#[cfg(test)]
+mod commands;
