@@ -8,7 +8,7 @@
 set -eu
 here=$(cd "$(dirname "$0")" && pwd)
 kit=${KIT:-$(dirname "$(dirname "$(readlink -f "$(command -v rt)")")")}
-crates="mast_base codec_terms codec_laws picture_bands picture_blocks block_packets cinema_stream stream_reader stream_survey"
+crates="mast_base codec_terms codec_laws picture_bands picture_sets picture_blocks block_packets cinema_stream stream_reader stream_survey"
 work=$(mktemp -d)
 trap 'rm -rf "$work"' EXIT
 "$here/../../.ci/copy-crates" "$work" $crates
