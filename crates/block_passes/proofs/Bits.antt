@@ -1,11 +1,11 @@
 -- Sets by the bits of their words.
-use Rattle.std.proofs.Common.{◌≡◌, ℕ, zero, suc, ◌+◌, ◌*◌, ◌/◌, ◌%◌, ◌^◌, ◌-◌, ◌<◌, ◌≤◌, min, refl, ◌∙◌, arith, inl, inr, Bool, true, false, List, length, get_or, set}
+use Rattle.std.proofs.Common.{◌≡◌, ℕ, suc, ◌+◌, ◌*◌, ◌%◌, ◌^◌, ◌-◌, ◌<◌, ◌≤◌, min, refl, ◌∙◌, arith, inl, inr, Bool, true, false, List, length, get_or, set}
 use Rattle.std.specs.Prelude.{◌==◌, nat_lt}
 use Rattle.std.specs.Int.{bit_at, from_bool, w64, bit_not}
 use Rattle.std.specs.Int.RustNames.{bit_or, bit_and}
 use Rattle.std.proofs.lemmas.Bool.{cases_eq, and_parts, ltb-true}
 use Rattle.std.proofs.lemmas.Nat.{mul-add-lt}
-use Rattle.std.proofs.lemmas.Nat.Bits.{bit_at_set_same, bit_at_set_other, shr_and_one, bit_at-lt, bit_at_and, bit_at_not}
+use Rattle.std.proofs.lemmas.Nat.Bits.{bit_at_set_same, bit_at_set_other, bit_at_and, bit_at_not}
 use Rattle.std.proofs.lemmas.List.{length-set, get_or-set_same, get_or-set_other}
 use Rattle.codec_terms.specs.Contexts.{contains, with_sample}
 use Rattle.codec_terms.specs.BlockDecisions.{Block}
@@ -45,14 +45,6 @@ module _ (b : Block) (w i : ℕ) (some : has_sample b w i ≡ true) where
         | inl e ↦ rw (e, bit_at_set_same w64 (get_or words w 0) i small, is_in-same b.width (column_at w i) (row_at w i) sample-column samples (sample-inside samples all)) refl
         | inr e ↦ rw (bit_at_set_other w64 (get_or words w 0) i small i' e, is_in-other b.width (column_at w i) (row_at w i) sample-column samples (suc (column_at w i')) (suc (row_at w i')) (λ c r. e (omega arith))) before
       ]
-
-pub test_of : (n i : ℕ) → from_bool (bit_and (n / 2 ^ i) 1 == 1) ≡ bit_at n i
-test_of n i = rw (shr_and_one n i) (by (bit_at n i) (bit_at-lt n i))
-  where
-    by : (m : ℕ) → m < 2 → from_bool (m == 1) ≡ m
-    by zero p = refl
-    by (suc zero) p = refl
-    by (suc (suc m)) p = absurd (omega arith)
 
 -- ---- a set without the samples of another, word by word
 

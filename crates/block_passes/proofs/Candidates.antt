@@ -67,17 +67,17 @@ lowest-behind m i small p none = elim (cases_lt 0 m) [
 
 module _ (b : Block) (w i : ℕ) (some : has_sample b w i ≡ true) (v v' : Walk) (size : length v.significant ≡ b.width * b.height)
     (more : v'.significant ≡ with_sample b.width v.significant (column_at w i) (row_at w i)) where
-  significant-same : (j : ℕ) → i < j → is_significant b v' (column_at w j) (row_at w j) ≡ is_significant b v (column_at w j) (row_at w j)
+  pub significant-same : (j : ℕ) → i < j → is_significant b v' (column_at w j) (row_at w j) ≡ is_significant b v (column_at w j) (row_at w j)
   significant-same j p =
       rw more (is_in-other b.width (column_at w i) (row_at w i) (sample-column b w i some) v.significant (suc (column_at w j)) (suc (row_at w j)) (λ e f. absurd (omega arith)))
 
-  zero-same : (j : ℕ) → i < j → is_later i j ≡ false → zero_context_of b v' (column_at w j) (row_at w j) ≡ zero_context_of b v (column_at w j) (row_at w j)
+  pub zero-same : (j : ℕ) → i < j → is_later i j ≡ false → zero_context_of b v' (column_at w j) (row_at w j) ≡ zero_context_of b v (column_at w j) (row_at w j)
   unfolding zero_context_of
   zero-same j p e =
       rw more (zero_context-apart b.kind b.width (column_at w i) (row_at w i) (sample-column b w i some) v.significant (column_at w j) (row_at w j)
       (λ a c d g. both_ways (is_later i j) e (later-is i j (record { behind = p; column = omega arith; above = omega arith; below = omega arith }))))
 
-  zero-more : (j : ℕ) → is_later i j ≡ true → (zero_context_of b v' (column_at w j) (row_at w j) == 0) ≡ false
+  pub zero-more : (j : ℕ) → is_later i j ≡ true → (zero_context_of b v' (column_at w j) (row_at w j) == 0) ≡ false
   unfolding zero_context_of
   zero-more j e =
       let h = later-true i j e in

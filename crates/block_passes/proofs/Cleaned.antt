@@ -4,7 +4,7 @@ use Rattle.std.specs.Prelude.{◌&&◌, not, nat_lt, if◌then◌else◌}
 use Rattle.std.specs.List.{range_with_len}
 use Rattle.std.specs.Int.{bit_at, from_bool, w64, bit_not, trailing_zeros}
 use Rattle.std.specs.Int.RustNames.{bit_and}
-use Rattle.std.proofs.lemmas.Bool.{cases_lt, and_parts, and_from, eqb-true, lt-ltb, ltb-true, both_ways, false_from_ne_true}
+use Rattle.std.proofs.lemmas.Bool.{cases_lt, and_parts, and_from, eqb-true, lt-ltb, ltb-true}
 use Rattle.std.proofs.lemmas.Nat.{and_mask, and_le_l}
 use Rattle.std.proofs.lemmas.Nat.Bits.{bit_at_and, bit_at_not, bit_at-lt, bit_at_ones, same_from_bits_below}
 use Rattle.std.proofs.lemmas.List.FromFn.{length-range_with_len}
@@ -15,12 +15,12 @@ use Rattle.block_words.proofs.Columns.{is_run-four}
 use Rattle.block_sets.specs.Places.{column_at, row_at}
 use Rattle.block_sets.proofs.Bits.{bit_at_mod, bit_at_shr, bit_at_shl_low, bit_at_shl_high}
 use Rattle.block_passes.specs.declared.state.PassState.{PassState}
-use Rattle.block_passes.specs.Scan.{has_sample, bit_step, column_of_word, column_step, columns_told}
+use Rattle.block_passes.specs.Scan.{has_sample, bit_step, column_of_word, column_step}
 use Rattle.block_passes.specs.Told.{HasTold}
 use Rattle.block_passes.specs.Left.{is_left_at, is_quiet_at, is_run_at, HasFour}
 use Rattle.block_passes.proofs.Bits.{sample-column, sample-row}
-use Rattle.block_passes.proofs.Candidates.{zero-is, lowest-behind, lowest-within, below-lowest}
-use Rattle.block_passes.proofs.Scan.{bit_step-some, column-bits, columns-none, columns-more, columns-skipped}
+use Rattle.block_passes.proofs.Candidates.{lowest-behind}
+use Rattle.block_passes.proofs.Scan.{bit_step-some, column-bits}
 
 -- ---- which samples are left
 
@@ -183,27 +183,6 @@ module _ (b : Block) (p w : ℕ) where
       ≡ bit_step (cleaned b p) b w (bit_step (cleaned b p) b w (bit_step (cleaned b p) b w (bit_step (cleaned b p) b w v (4 * k)) (4 * k + 1)) (4 * k + 2)) (4 * k + 3)
   column-no_run v k e = same-column v k e ∙ column-bits (cleaned b p) b w v k
 
-  -- a column of which no sample is left
-  pub column-unleft : (v : Walk) (k : ℕ) → ((r : ℕ) → r < 4 → is_left_at b w v (4 * k + r) ≡ false) → column_step (column_cleaned b p) b w v k ≡ v
-  column-unleft v k none =
-      let first : is_left_at b w v (4 * k) ≡ false = first_none (none 0 (omega arith)) in
-      let no_run = false_from_ne_true (is_run_at b w v k) (λ run. both_ways (is_left_at b w v (4 * k + 0)) (none 0 (omega arith)) (run-left b w k v run 0 (omega arith))) in
-      column-no_run v k no_run
-      ∙ rw (clean-none b p w v (4 * k) first, clean-none b p w v (4 * k + 1) (none 1 (omega arith)), clean-none b p w v (4 * k + 2) (none 2 (omega arith))) (clean-none b p w v (4 * k + 3) (none 3 (omega arith)))
-    where
-      first_none : is_left_at b w v (4 * k + 0) ≡ false → is_left_at b w v (4 * k) ≡ false
-      first_none e =
-          let zeroth : 4 * k + 0 ≡ 4 * k = omega arith in
-          rw zeroth at e
-
-  -- on to the column of the lowest sample that is left
-  pub columns-on : (v u : Walk) (m n todo : ℕ) → m ≤ n / 4 → n ≤ 64 → columns_told (column_cleaned b p) b w m v ≡ u
-      → ((j : ℕ) → 4 * m ≤ j → j < 64 → bit_at todo j ≡ from_bool (is_left_at b w u j))
-      → ((j : ℕ) → j < n → bit_at todo j ≡ 0) → columns_told (column_cleaned b p) b w (n / 4) v ≡ u
-  columns-on v u m n todo le within e left none =
-      columns-skipped (column_cleaned b p) b w v u m (n / 4) le e
-      (λ k a c. column-unleft u k (λ r q. zero-is _ (sym (none (4 * k + r) (omega arith)) ∙ left (4 * k + r) (omega arith) (omega arith))))
-
 -- the columns behind bit a + 3
 ahead-none : (a j : ℕ) → j < 64 → j < a + 4 → bit_at (18446744073709551615 * 2 ^ a % 18446744073709551616 * 16 % 18446744073709551616) j ≡ 0
 ahead-none a j p q = elim (cases_lt j 4) [
@@ -239,21 +218,6 @@ module _ (n k : ℕ) (small : k < 16) (fits : n < 18446744073709551616) where
 
   pub ahead-column : suc k ≤ trailing_zeros w64 (ahead n k) / 4
   ahead-column = omega (arith, lowest-behind (ahead n k) (4 * k + 3) ahead-small (omega arith) ahead-below)
-
-  pub cleaned-next : (b : Block) (p w : ℕ) (v u : Walk) → columns_told (column_cleaned b p) b w k v ≡ u
-      → ((j : ℕ) → j < 64 → bit_at n j ≡ from_bool (is_left_at b w (column_step (column_cleaned b p) b w u k) j))
-      → columns_told (column_cleaned b p) b w (trailing_zeros w64 (ahead n k) / 4) v ≡ column_step (column_cleaned b p) b w u k
-  cleaned-next b p w v u e left =
-      columns-on b p w v (column_step (column_cleaned b p) b w u k) (suc k) (trailing_zeros w64 (ahead n k)) (ahead n k) ahead-column (lowest-within (ahead n k) ahead-small)
-      (columns-more (column_cleaned b p) b w v k (suc k) refl ∙ ap (λ (t : Walk). column_step (column_cleaned b p) b w t k) e)
-      (λ j a c. ahead-behind j (omega arith) c ∙ left j c)
-      (λ j c. below-lowest (ahead n k) ahead-small j c (omega (arith, lowest-within (ahead n k) ahead-small)))
-
-pub cleaned-start : (b : Block) (p w : ℕ) (v : Walk) (n : ℕ) → n < 18446744073709551616
-    → ((j : ℕ) → j < 64 → bit_at n j ≡ from_bool (is_left_at b w v j)) → columns_told (column_cleaned b p) b w (trailing_zeros w64 n / 4) v ≡ v
-cleaned-start b p w v n fits left =
-    columns-on b p w v v 0 (trailing_zeros w64 n) n (omega arith) (lowest-within n fits) (columns-none (column_cleaned b p) b w v) (λ j a c. left j c)
-    (λ j c. below-lowest n fits j c (omega (arith, lowest-within n fits)))
 
 -- ---- the rows behind the first 1 of a run
 

@@ -8,10 +8,13 @@ pub mod Candidates
 pub mod Propagated
 pub mod Refined
 pub mod Cleaned
+pub mod Runs
+pub mod Offsets
+pub mod Masks
+pub mod Onward
+pub mod Forward
 pub mod Words
 pub mod Planes
 pub mod Starts
 pub mod Marking
-pub mod Rest
 pub mod Quiet
-pub mod Zeros

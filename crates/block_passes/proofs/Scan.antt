@@ -44,10 +44,6 @@ module _ (step : ℕ → Walk → ℕ → Walk) (b : Block) (w : ℕ) (v : Walk)
   unfolding bit_step
   bit_step-some e = rw e refl
 
-  pub bit_step-none : has_sample b w i ≡ false → bit_step step b w v i ≡ v
-  unfolding bit_step
-  bit_step-none e = rw e refl
-
 -- ---- a column is four bits
 
 lt_rows : (top r height m : ℕ) → r < 4 → m ≡ min 4 (height - top) → nat_lt (top + r) height ≡ nat_lt r m
@@ -130,10 +126,6 @@ module _ (step : Walk → Column → Walk) (b : Block) (w : ℕ) (v : Walk) wher
   pub columns-none : columns_told step b w 0 v ≡ v
   unfolding columns_told
   columns-none = refl
-
-  pub columns-more : (n m : ℕ) → m ≡ suc n → columns_told step b w m v ≡ column_step step b w (columns_told step b w n v) n
-  unfolding columns_told
-  columns-more n m e = fold-range_more (column_step step b w) v 0 n n m (omega arith) e
 
   pub columns-skipped : (u : Walk) (m n : ℕ) → m ≤ n → columns_told step b w m v ≡ u
       → ((k : ℕ) → m ≤ k → k < n → column_step step b w u k ≡ u) → columns_told step b w n v ≡ u

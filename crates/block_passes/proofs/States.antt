@@ -19,6 +19,9 @@ use Rattle.block_passes.specs.Scan.{has_sample}
 use Rattle.block_passes.specs.Told.{HasTold, HasWords}
 use Rattle.block_passes.proofs.Bits.{sample-column, sample-row, bits-more}
 
+pub code-fits : (context n : ℕ) (bit : Bool) → context < 19 → n ≡ from_bool bit → 2 * context + n < 256
+code-fits context n bit small e = rw e (omega (arith, code-small context bit small))
+
 -- a decision more
 pub told-with_decision : (b : Block) (s t : PassState) (v : Walk) (context : ℕ) (bit : Bool) → context < 19
     → t.words ≡ s.words → t.significant ≡ s.significant → t.visited ≡ s.visited

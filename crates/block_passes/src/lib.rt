@@ -8,6 +8,7 @@ mod pass;
 mod plane;
 mod propagation;
 mod refinement;
+mod remaining;
 mod sample;
 mod start;
 mod state;

@@ -18,7 +18,7 @@ fn context_of(first: bool, beside: bool) -> u8
     ensures context { (n : ℕ) → beside ≡ not (n == 0) → result ≡ refine_context first n }
     ensures small { result < 19 }
 {
-    if first { 14 + u8::from(beside) } else { 16 }
+    16 - 2 * u8::from(first) + u8::from(first & beside)
 }
 
 fn refine(plane: &Plane<'_>, state: &mut PassState, w: usize, i: u32, beside: u64)
@@ -34,7 +34,7 @@ fn refine(plane: &Plane<'_>, state: &mut PassState, w: usize, i: u32, beside: u6
     ensures count { state.new.count ≡ state.old.count + 1 }
 {
     let context = context_of(plane.is_first(w, i), beside >> i & 1 == 1);
-    code(state, context, plane.bit(w, i));
+    code(state, 2 * context + u8::from(plane.bit(w, i)));
 }
 
 // Codes the lowest of the samples that are left, and gives the others; `beside` has those with a significant neighbour.

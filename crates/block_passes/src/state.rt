@@ -1,5 +1,4 @@
-ghost use Rattle.std.specs.Prelude.{◌≡◌, ◌+◌, ◌*◌, ◌<◌, ◌≤◌, ◌∷◌, [], ◌++◌, take};
-ghost use Rattle.std.specs.Int.{from_bool};
+ghost use Rattle.std.specs.Prelude.{◌≡◌, ◌+◌, ◌<◌, ◌≤◌, ◌∷◌, [], ◌++◌, take};
 ghost use Rattle.block_words.specs.Words.{place_of};
 ghost use Rattle.block_sets.specs.Places.{column_at, row_at};
 
@@ -17,14 +16,22 @@ pub struct PassState {
     pub ghost counted: { count ≤ 7680 },
 }
 
+/// How far the word of each sample of a set's word is behind that of the first.
+#[rattlefmt::skip]
+static OFFSETS: [u8; 64] = [
+    0, 34, 68, 102, 1, 35, 69, 103, 2, 36, 70, 104, 3, 37, 71, 105,
+    4, 38, 72, 106, 5, 39, 73, 107, 6, 40, 74, 108, 7, 41, 75, 109,
+    8, 42, 76, 110, 9, 43, 77, 111, 10, 44, 78, 112, 11, 45, 79, 113,
+    12, 46, 80, 114, 13, 47, 81, 115, 14, 48, 82, 116, 15, 49, 83, 117,
+];
+
 /// The place of a sample's word.
 pub(crate) fn place_of(w: usize, i: u32) -> usize
     requires w { w < 16 }
     requires i { i < 64 }
     ensures { result ≡ place_of (column_at w i) (row_at w i) }
 {
-    let i = i as usize;
-    (w / 2 * 4 + i % 4 + 1) * 34 + (w % 2 * 16 + i / 4) + 1
+    (w / 2 * 4 + 1) * 34 + w % 2 * 16 + 1 + usize::from(OFFSETS[i as usize])
 }
 
 impl PassState {
@@ -51,12 +58,11 @@ impl PassState {
         &self.decisions[..self.count]
     }
 
-    /// Puts a decision behind the others.
-    pub(crate) fn push(&mut self, context: u8, bit: bool)
-        requires context { context < 19 }
+    /// Puts a decision behind the others: twice its context and the bit.
+    pub(crate) fn push(&mut self, code: u8)
         requires room { self.old.count < 7680 }
         ensures list { take self.new.count self.new.decisions
-            ≡ take self.old.count self.old.decisions ++ (2 * context + from_bool bit) ∷ [] }
+            ≡ take self.old.count self.old.decisions ++ code ∷ [] }
         ensures count { self.new.count ≡ self.old.count + 1 }
         ensures words { self.new.words ≡ self.old.words }
         ensures significant { self.new.significant ≡ self.old.significant }
@@ -64,7 +70,7 @@ impl PassState {
         ensures first { self.new.first ≡ self.old.first }
     {
         let count = self.count;
-        self.decisions[count] = 2 * context + u8::from(bit);
+        self.decisions[count] = code;
         self.count = count + 1;
     }
 }

@@ -13,4 +13,4 @@ returns-clause-told c = λ b p v is h some around.
     let beside = beside-is b (omega arith) (omega arith) v.significant h.sets.significant_size c.args.state.now.significant h.sets.significant c.args.beside x y c.args.i around in
     let context : c.context_of-context.result ≡ refine_context_at b.width v.significant (is_first b p x y) x y =
     rw (c.context_of-context.ensures.context _ beside, c.is_first.ensures b p is some) refl in
-    rw (← context, ← (c.bit.ensures b p is some)) (c.code.ensures.told b v h)
+    c.code.ensures.told b v _ _ h (rw (← context) c.context_of-context.ensures.small) (rw (context, c.from.ensures, c.bit.ensures b p is some) refl)

@@ -1,11 +1,10 @@
-use Rattle.std.proofs.Common.{◌∙◌}
+use Rattle.std.proofs.Common.{◌∙◌, ◌*◌, ℕ, ap}
 use Rattle.codec_terms.specs.BlockDecisions.{zero_context_of, negatives}
-use Rattle.codec_laws.proofs.Contexts.{zero_context-below}
 use Rattle.block_words.proofs.Steps.{zero_context-word}
 use Rattle.block_sets.specs.Places.{column_at, row_at}
 use Rattle.block_passes.proofs.Bits.{sample-column, sample-row}
-use Rattle.block_passes.proofs.Quiet.{zero-entry}
-use Rattle.block_passes.proofs.sample.zero_context_at.Goals as goal
+use Rattle.block_passes.proofs.Quiet.{zero-entry, zero-entry-small}
+use Rattle.block_passes.proofs.sample.zero_code.Goals as goal
 
 pub returns-clause-told : goal.returns-clause-told
 unfolding zero_context_of
@@ -14,7 +13,7 @@ returns-clause-told c = λ b p v is h some.
     let y = row_at c.args.w c.args.i in
     let word = h.sets.words x y (sample-column b c.args.w c.args.i some) (sample-row b c.args.w c.args.i some) in
     zero-entry c.args.plane.now.zeros.now c.args.plane.now.kind _ c.args.plane.now.table.each
-    ∙ rw (c.place_of.ensures, is.kind) (zero_context-word b.width v.significant (negatives b) x y _ word b.kind)
+    ∙ ap (λ (n : ℕ). 2 * n) (rw (c.place_of.ensures, is.kind) (zero_context-word b.width v.significant (negatives b) x y _ word b.kind))
 
 pub returns-clause-small : goal.returns-clause-small
-returns-clause-small c = rw (zero-entry c.args.plane.now.zeros.now c.args.plane.now.kind _ c.args.plane.now.table.each) (zero_context-below _ _ _ _)
+returns-clause-small c = zero-entry-small c.args.plane.now.zeros.now c.args.plane.now.kind _ c.args.plane.now.table.each
