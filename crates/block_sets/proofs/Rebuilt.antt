@@ -1,5 +1,5 @@
 -- A block is rebuilt from its bit-planes and signs.
-use Rattle.std.proofs.Common.{◌≡◌, ℕ, zero, suc, ◌+◌, ◌*◌, ◌/◌, ◌%◌, ◌^◌, ◌<◌, ◌≤◌, refl, sym, ap, ◌∙◌, arith, inl, inr, Bool, true, false, cond, List, [], length, map, get_or, All, ℤ, pos, negsuc, unsigned_abs, div-add-mod'}
+use Rattle.std.proofs.Common.{◌≡◌, ℕ, zero, suc, ◌+◌, ◌*◌, ◌/◌, ◌%◌, ◌^◌, ◌<◌, ◌≤◌, refl, sym, ap, ◌∙◌, arith, inl, inr, Bool, true, false, cond, length, map, get_or, ℤ, pos, negsuc, unsigned_abs, div-add-mod'}
 use Rattle.std.specs.Prelude.{◌==◌, neg_ℤ}
 use Rattle.std.specs.Int.{from_bool, is_negative}
 use Rattle.std.specs.List.{range_with_len}

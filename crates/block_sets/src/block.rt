@@ -77,6 +77,32 @@ pub fn plane_count(sets: &[[u64; 16]; 16]) -> usize
     0
 }
 
+/// The lowest bit-planes of a block of this size, of which `sets` are those: so many as it has, where that is known.
+pub fn lowest_planes(
+    kind: BandKind,
+    width: usize,
+    height: usize,
+    sets: &[[u64; 16]; 16],
+    count: usize,
+) -> BlockPlanes<'_>
+    requires width { width ≤ 32 }
+    requires height { height ≤ 32 }
+    requires count { count ≤ 15 }
+    ensures planes { (b : Block) → b.kind ≡ kind → b.width ≡ width → b.height ≡ height → AreSetsOf b sets.now
+        → count ≡ plane_count b → HasPlanesOf b result }
+    ensures whole { (b : Block) → b.kind ≡ kind → b.width ≡ width → b.height ≡ height → AreSetsOf b sets.now
+        → count ≡ plane_count b → block_of result ≡ b }
+    ensures count { length result.planes.now ≡ count }
+{
+    BlockPlanes {
+        kind,
+        width,
+        height,
+        signs: &sets[15],
+        planes: &sets[..count],
+    }
+}
+
 /// The bit-planes of a block of this size, of which `sets` are those.
 pub fn planes_in(
     kind: BandKind,
@@ -94,11 +120,5 @@ pub fn planes_in(
         → length result.planes.now ≡ plane_count b }
     ensures few { length result.planes.now ≤ 15 }
 {
-    BlockPlanes {
-        kind,
-        width,
-        height,
-        signs: &sets[15],
-        planes: &sets[..plane_count(sets)],
-    }
+    lowest_planes(kind, width, height, sets, plane_count(sets))
 }

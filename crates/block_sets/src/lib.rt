@@ -13,7 +13,7 @@ mod square;
 mod start;
 mod transposed;
 
-pub use block::{plane_count, planes_in, split_block};
+pub use block::{lowest_planes, plane_count, planes_in, split_block};
 pub use laws::{band_block_laws, plane_laws};
 pub use neighbours::near;
 pub use places::place_laws;

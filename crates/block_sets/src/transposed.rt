@@ -1,4 +1,4 @@
-ghost use Rattle.std.specs.Prelude.{◌≡◌, ◌≢◌, ◌+◌, ◌*◌, ◌/◌, ◌%◌, ◌<◌, ℕ, slice_index};
+ghost use Rattle.std.specs.Prelude.{◌≡◌, ◌≢◌, ◌+◌, ◌*◌, ◌/◌, ◌%◌, ◌<◌, ℕ, IsTrue, slice_index};
 ghost use Rattle.std.specs.Int.{bit_at};
 ghost use Rattle.block_sets.specs.Squares.{exchanged_with, IsApart};
 
@@ -90,8 +90,8 @@ fn gather_all(turned: &[u8; 64], gathered: &mut [u8; 64])
     }
 }
 
-/// The bits of 64 bytes, plane by plane: bit i of plane p is bit p of byte i.
-pub(crate) fn planes_of(bytes: &[u8; 64]) -> [u64; 8]
+// The bits of 64 bytes, plane by plane: bit i of plane p is bit p of byte i.
+fn turned_planes(bytes: &[u8; 64]) -> [u64; 8]
     ensures { (p i : ℕ) → p < 8 → i < 64
         → bit_at (slice_index result p) i ≡ bit_at (slice_index bytes.now i) p }
 {
@@ -105,4 +105,26 @@ pub(crate) fn planes_of(bytes: &[u8; 64]) -> [u64; 8]
         planes[p] = square_at(&gathered, p);
     }
     planes
+}
+
+// Tested by eight bytes at once.
+fn are_zero(bytes: &[u8; 64]) -> bool
+    ensures { IsTrue result → (i p : ℕ) → i < 64 → p < 8 → bit_at (slice_index bytes.now i) p ≡ 0 }
+{
+    let mut some = 0u64;
+    for group in 0..8usize {
+        some |= square_at(bytes, group);
+    }
+    some == 0
+}
+
+/// The bits of 64 bytes, plane by plane: bit i of plane p is bit p of byte i.
+pub(crate) fn planes_of(bytes: &[u8; 64]) -> [u64; 8]
+    ensures { (p i : ℕ) → p < 8 → i < 64
+        → bit_at (slice_index result p) i ≡ bit_at (slice_index bytes.now i) p }
+{
+    if are_zero(bytes) {
+        return [0; 8];
+    }
+    turned_planes(bytes)
 }

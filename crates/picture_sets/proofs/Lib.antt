@@ -1,4 +1,5 @@
 pub mod Bands
+pub mod Counts
+pub mod Planes
 pub mod Rows
 pub mod Words
-pub mod Counts

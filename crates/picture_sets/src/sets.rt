@@ -7,12 +7,12 @@ ghost use Rattle.block_coder.specs.Blocks.{IsBlock};
 ghost use Rattle.band_starts.specs.Places.{IsPictureBand};
 ghost use Rattle.picture_sets.specs.Sets.{picture_block, sets_at, AreSetsOfPicture};
 
+use crate::block::{BlockSets, NO_SAMPLES};
 use crate::split::fill_bands;
 use crate::starts::block_starts;
 use band_map::block_size;
 use band_starts::{band_place, block_columns_rows, block_laws, block_total};
-use block_coder::block_of_sets;
-use block_sets::BlockPlanes;
+use block_sets::{BlockPlanes, lowest_planes};
 use codec_terms::{Band, Shape};
 use mast_base::NoMemory;
 use std::alloc::Global;
@@ -25,8 +25,7 @@ pub struct PictureSets {
     shape: Shape,
     // Where those of each sub-band begin.
     starts: [u32; 48],
-    // Of each code-block its bit-planes from the lowest, and at the end the samples with negative values.
-    sets: Vec<[[u64; 16]; 16]>,
+    sets: Vec<BlockSets>,
 }
 
 impl Model for PictureSets {
@@ -46,7 +45,7 @@ impl PictureSets {
         requires { IsPictureSize shape }
         ensures { IfOk result (λ sets. sets.shape ≡ shape) }
     {
-        let sets = Vec::from_elem(alloc, [[0u64; 16]; 16], block_total(shape))?;
+        let sets = Vec::from_elem(alloc, NO_SAMPLES, block_total(shape))?;
         Ok(PictureSets {
             shape,
             starts: block_starts(shape),
@@ -76,7 +75,7 @@ impl PictureSets {
     }
 
     // The sets of the code-block in column x and row y of a sub-band.
-    fn sets_of(&self, band: Band, x: u32, y: u32) -> &[[u64; 16]; 16]
+    fn sets_of(&self, band: Band, x: u32, y: u32) -> &BlockSets
         requires picture { IsPictureBand band }
         requires column { x < block_columns self.now.shape band }
         requires row { y < block_rows self.now.shape band }
@@ -100,7 +99,13 @@ impl PictureSets {
             → block_of result ≡ picture_block self.now.shape q band x y }
     {
         let (width, height) = block_size(self.shape, band, x, y);
-        let sets = self.sets_of(band, x, y);
-        block_of_sets(band.kind, width as usize, height as usize, sets)
+        let block = self.sets_of(band, x, y);
+        lowest_planes(
+            band.kind,
+            width as usize,
+            height as usize,
+            &block.sets,
+            usize::from(block.planes),
+        )
     }
 }

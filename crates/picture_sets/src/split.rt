@@ -3,14 +3,15 @@ ghost use Rattle.codec_terms.specs.declared.picture.Band.{Band};
 ghost use Rattle.codec_terms.specs.Bands.{band_columns, band_length, band_place};
 ghost use Rattle.codec_terms.specs.Precincts.{block_columns, block_rows};
 ghost use Rattle.quantiser.specs.Signed.{signed_values};
-ghost use Rattle.block_sets.specs.Planes.{AreSetsOf};
 ghost use Rattle.band_starts.specs.Places.{IsPictureBand};
 ghost use Rattle.band_starts.specs.Blocks.{block_count, block_start, all_block_count};
+ghost use Rattle.picture_sets.specs.Blocks.{IsSplit};
 ghost use Rattle.picture_sets.specs.Sets.{block_in, AreSetsBefore};
 
+use crate::block::{BlockSets, split};
 use band_map::{band_size, block_size};
 use band_starts::{band_at, band_length, band_start, block_columns_rows};
-use block_sets::{band_block_laws, fill_from_rows, split_block};
+use block_sets::{band_block_laws, fill_from_rows};
 use codec_terms::{Band, Shape};
 
 // Where the first row of a code-block begins among a sub-band's words.
@@ -34,13 +35,13 @@ fn split_block_in(
     x: u32,
     y: u32,
     square: &mut [[u16; 32]; 32],
-    sets: &mut [[u64; 16]; 16],
+    block: &mut BlockSets,
 )
     requires picture { IsPictureBand band }
     requires whole { length words.now ≡ band_length shape band }
     requires column { x < block_columns shape band }
     requires row { y < block_rows shape band }
-    ensures { AreSetsOf (block_in shape band words.now x y) sets.new }
+    ensures { IsSplit (block_in shape band words.now x y) block.new }
 {
     band_block_laws();
     let (columns, _) = band_size(shape, band);
@@ -53,12 +54,12 @@ fn split_block_in(
         height as usize,
         square,
     );
-    split_block(square, sets);
+    split(square, block);
 }
 
 // Makes the sets of a sub-band's code-blocks, behind those of the sub-bands before it.
 fn fill_band(
-    sets: &mut [[[u64; 16]; 16]],
+    sets: &mut [BlockSets],
     shape: Shape,
     band: Band,
     first: usize,
@@ -90,12 +91,7 @@ fn fill_band(
 }
 
 /// Makes the sets of all code-blocks of a picture that has these words.
-pub(crate) fn fill_bands(
-    sets: &mut [[[u64; 16]; 16]],
-    shape: Shape,
-    starts: &[u32; 48],
-    words: &[u16],
-)
+pub(crate) fn fill_bands(sets: &mut [BlockSets], shape: Shape, starts: &[u32; 48], words: &[u16])
     requires there { length sets.old ≡ all_block_count shape }
     requires starts { (band : Band) → IsPictureBand band
         → slice_index starts.now (band_place band) ≡ block_start shape band }

@@ -16,7 +16,7 @@ returns c =
     let b = block_in c.args.shape c.args.band c.args.words.now c.args.x c.args.y in
     let wide = before (band_columns c.args.shape c.args.band) c.args.x c.requires.column in
     let high = before (band_rows c.args.shape c.args.band) c.args.y c.requires.row in
-    c.split_block.ensures b (omega arith) (omega arith)
+    c.split.ensures b (omega arith) (omega arith)
     (c.band_block_laws.ensures.whole c.args.shape c.args.band c.args.words.now c.args.x c.args.y c.requires.whole wide high)
     (c.fill_from_rows.ensures b (sym c.block_size-width.ensures.width) (sym c.block_size-width.ensures.height)
     (rows_are b _ _ _ _ c.args.words.now c.band_size-columns.ensures.columns c.first_word-first.ensures.place

@@ -1,6 +1,6 @@
 use Rattle.std.proofs.Common.{◌≡◌, ℕ, ◌<◌, length, get_or}
 use Rattle.std.specs.Int.{bit_at}
-use Rattle.block_sets.proofs.transposed.planes_of.Given as goal
+use Rattle.block_sets.proofs.transposed.turned_planes.Given as goal
 
 abbrev pub invariant-loop-p : goal.invariant-loop-p
 invariant-loop-p l = record {
