@@ -1,1 +1,2 @@
+pub mod Black
 pub mod Making

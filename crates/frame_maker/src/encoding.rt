@@ -4,8 +4,10 @@ ghost use Rattle.codec_terms.specs.Encode.{encoding, shape_of, task_coefficients
 ghost use Rattle.film_plan.specs.Plan.{limits_of};
 ghost use Rattle.frame_values.specs.Encoded.{IsEncodingOf, IsTaskOf};
 ghost use Rattle.frame_values.specs.Shown.{black};
+ghost use Rattle.frame_maker.specs.Black.{IsBlack};
 ghost use Rattle.raw_frames.specs.Frames.{frame_size};
 
+use crate::black::{BlackFrame, is_black, kept_for};
 use crate::maker::FrameMaker;
 use codec_terms::{Params, Task};
 use film_plan::Plan;
@@ -85,6 +87,28 @@ fn encode_to(
     Ok(bytes.len())
 }
 
+/// The same of a black picture, which is encoded once for all that are encoded like it.
+fn encode_black_to(
+    alloc: Global,
+    kept: &mut Option<Encoder>,
+    black: &mut Option<BlackFrame>,
+    task: &Task,
+    room: &mut [u8],
+) -> Result<usize, NoMemory>
+    requires black { IsBlack task.now }
+    requires room { task.now.params.limits.frame ≤ length room.old }
+    ensures value { IfOk result (λ n. take n room.new ≡ encoding task.now) }
+    ensures size { IfOk result (λ n. n ≤ task.now.params.limits.frame) }
+{
+    if let Some(bytes) = kept_for(black, task.params) {
+        room[..bytes.len()].copy_from_slice(bytes);
+        return Ok(bytes.len());
+    }
+    let size = encode_to(alloc, kept, task, room)?;
+    *black = Some(BlackFrame::of(alloc, task, &room[..size])?);
+    Ok(size)
+}
+
 /// The bytes of the project's raw pictures.
 fn frame_size(project: &Project) -> usize
     ensures { result ≡ frame_size project.now.width project.now.height }
@@ -120,7 +144,11 @@ impl FrameMaker {
         task_laws();
         let raw = mem::replace(&mut self.raw, Bytes::new(alloc));
         let task = task_of(plan, raw);
-        let size = encode_to(alloc, &mut self.encoder, &task, room);
+        let size = if is_black(task.raw.as_slice()) {
+            encode_black_to(alloc, &mut self.encoder, &mut self.black, &task, room)
+        } else {
+            encode_to(alloc, &mut self.encoder, &task, room)
+        };
         self.raw = task.raw;
         size
     }

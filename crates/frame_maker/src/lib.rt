@@ -1,6 +1,7 @@
 //! Frames: read where they lie ready, encoded from raw pictures and black.
 #![tactic(auto)]
 
+mod black;
 mod encoding;
 mod maker;
 mod names;

@@ -6,6 +6,7 @@ ghost use Rattle.frame_values.specs.Causes.{IsCellCause, IsCellOf, IsFrameValue,
 ghost use Rattle.frame_values.specs.Shown.{asset_shown, file_of};
 ghost use Rattle.mast_world.specs.Changes.{IsSameSource};
 
+use crate::black::BlackFrame;
 use crate::names::{asset_at, file_of};
 use crate::ready::show_ready;
 use film_plan::Plan;
@@ -24,6 +25,8 @@ pub struct FrameMaker {
     pub(crate) encoder: Option<Encoder>,
     /// The last raw picture.
     pub(crate) raw: Bytes,
+    /// The last black picture that was encoded.
+    pub(crate) black: Option<BlackFrame>,
 }
 
 impl FrameMaker {
@@ -32,6 +35,7 @@ impl FrameMaker {
         Ok(FrameMaker {
             encoder: None,
             raw: Bytes::new(alloc),
+            black: None,
         })
     }
 
