@@ -1,0 +1,4 @@
+pub mod Entries
+pub mod Segments
+pub mod Puts
+pub mod RandomIndexes

@@ -1,0 +1,11 @@
+pub mod Facts
+pub mod Head
+pub mod Keys
+pub mod Kinds
+pub mod Partitions
+pub mod Primer
+pub mod Sets
+pub mod Tail
+pub mod Track
+pub mod Values
+pub mod Views
