@@ -24,7 +24,8 @@ pub(crate) fn put_primer(
 
 /// What the primer of a file of this kind says.
 fn entries_of(alloc: Global, kind: TrackKind) -> Result<Vec<PrimerEntry>, AllocError>
-    ensures { IfOk result (λ entries. entries.items ≡ filter (λ entry. spec.has_tag kind entry.tag) spec.all_entries) }
+    ensures { IfOk result (λ entries.
+        entries.items ≡ filter (λ entry. spec.has_tag kind entry.tag) spec.all_entries) }
 {
     let mut entries = Vec::new(alloc);
     for entry in primer_entries() {

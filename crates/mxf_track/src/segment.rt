@@ -29,8 +29,8 @@ pub(crate) fn put_segment(
 ) -> Result<(), AllocError>
     requires count { length places.now ≤ 5000 }
     requires behind { All (λ place. 16508 ≤ place) places.now }
-    ensures { OnOk result
-        (out.new.items ≡ out.old.items ++ local_set (keys.key_of INDEX) (spec.segment_items facts.now number places.now)) }
+    ensures { OnOk result (out.new.items
+        ≡ out.old.items ++ local_set (keys.key_of INDEX) (spec.segment_items facts.now number places.now)) }
 {
     let length = FIXED_LENGTH + ENTRY_LENGTH * places.len() as u32;
     out.extend_from_slice(&key_length(key_of(INDEX), length))?;

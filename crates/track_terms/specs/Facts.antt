@@ -1,5 +1,6 @@
 -- The plain values of a track's facts, and the rules that they keep.
 use Rattle.std.specs.Prelude.{◌≡◌, ℕ, ◌≤◌, ◌<◌, List, length, IsTrue, All}
+use Rattle.film_project.specs.Facts.{ProjectFacts}
 use Rattle.film_project.specs.Members.{is_frame_rate}
 use Rattle.film_project.specs.Texts.{keeps}
 use Rattle.film_project.specs.declared.text_rule.TextRule.TheVariants.{Issued}
@@ -16,6 +17,21 @@ pub record PlainFacts : Type 0 where
   pub width : ℕ
   pub height : ℕ
   pub channels : ℕ
+
+-- of the track of this name and kind in a project's package, where the asset has this UUID
+abbrev pub of_project : ProjectFacts → TrackKind → List ℕ → List ℕ → PlainFacts
+of_project project kind name asset = record {
+  kind = kind;
+  name = name;
+  namespace = project.namespace;
+  asset = asset;
+  issued = project.issued;
+  fps = project.fps;
+  frames = project.frames;
+  width = project.width;
+  height = project.height;
+  channels = project.channels;
+}
 
 -- what is also said of a project's members keeps their rules
 pub record IsTrack (facts : PlainFacts) : Type 0 where

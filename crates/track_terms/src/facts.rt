@@ -1,5 +1,9 @@
+ghost use Rattle.std.specs.Prelude.{◌≡◌, IfOk};
+
 use crate::kind::TrackKind;
-use mast_base::Bytes;
+use film_project::Project;
+use mast_base::{Bytes, NoMemory};
+use std::alloc::Global;
 use std::marker::Model;
 
 /// What the bytes around the items of a track file depend on.
@@ -35,4 +39,32 @@ impl Model for TrackFacts {
     ghost view = { facts_of };
 
     ghost invariant = { λ facts. IsTrack (facts_of facts) };
+}
+
+impl TrackFacts {
+    ghost use Rattle.track_terms.specs.Facts.{of_project};
+
+    /// Those of a track in the package of a project.
+    pub fn of_project(
+        alloc: Global,
+        project: &Project,
+        kind: TrackKind,
+        name: &[u8],
+        asset: &[u8; 16],
+    ) -> Result<Self, NoMemory>
+        ensures { IfOk result (λ facts. facts ≡ of_project project.now kind name.now asset.now) }
+    {
+        Ok(TrackFacts {
+            kind,
+            name: Bytes::copy_of(alloc, name)?,
+            namespace: project.namespace,
+            asset: *asset,
+            issued: Bytes::copy_of(alloc, project.issued.as_slice())?,
+            fps: project.fps,
+            frames: project.frames,
+            width: project.width,
+            height: project.height,
+            channels: project.channels,
+        })
+    }
 }
