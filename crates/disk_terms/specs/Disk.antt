@@ -1,5 +1,5 @@
 -- What a crash may leave of a disk's files, from what was asked of the disk.
-use Rattle.std.specs.Prelude.{◌≡◌, ◌≢◌, ℕ, ◌+◌, ◌<◌, ◌≤◌, min, max, Bool, false, ◌&&◌, nat_le, nat_lt, ⊤, List, [], ◌∷◌, ◌++◌, length, slice_index, All}
+use Rattle.std.specs.Prelude.{◌≡◌, ◌≢◌, ◌⊎◌, ℕ, ◌+◌, ◌<◌, ◌≤◌, min, max, Bool, false, ◌&&◌, nat_le, nat_lt, ⊤, List, [], ◌∷◌, ◌++◌, length, take, slice_index, All}
 use Rattle.std.specs.List.{list_any}
 
 -- so many bytes from a place on
@@ -53,6 +53,12 @@ pub record DiffersWithin (range : Range) (old new : List ℕ) : Type 0 where
   pub greatest : length new ≤ max (length old) (range.at + range.size)
   pub kept : (place : ℕ) → place < length new → is_in place range ≡ false → slice_index new place ≡ slice_index old place
 
+-- the new bytes are the old ones, cut to this size or a longer one
+pub record IsCutWithin (size : ℕ) (old new : List ℕ) : Type 0 where
+  pub longer : ℕ
+  pub least : size ≤ longer
+  pub kept : new ≡ take longer old
+
 -- each file's trail, and what a crash leaves of each file
 abbrev pub Disk : Type 0 → Type 0
 Disk File = File → Trail
@@ -90,6 +96,13 @@ IsSynced file bytes before now = IsChanged file (at_rest bytes) before now
 
 abbrev pub IsRested : {File : Type 0} → History File → History File → Type 0
 IsRested before now = now ≡ before
+
+-- A call that failed put its moment there or none.
+abbrev pub IsWrittenAtMost : {File : Type 0} → File → ℕ → ℕ → History File → History File → Type 0
+IsWrittenAtMost file at size before now = IsWritten file at size before now ⊎ IsRested before now
+
+abbrev pub IsCutAtMost : {File : Type 0} → File → ℕ → History File → History File → Type 0
+IsCutAtMost file size before now = IsCutTo file size before now ⊎ IsRested before now
 
 -- from before the history went on to now, by further disks that each have P
 pub record HasPassed {File : Type 0} (P : Disk File → Type 0) (before now : History File) : Type 0 where

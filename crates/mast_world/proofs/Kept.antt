@@ -1,5 +1,7 @@
 -- Steps behind one another.
 use Rattle.std.proofs.Common.{◌≤◌, ℕ, ◌∙◌, List, refl, arith}
+use Rattle.disk_terms.specs.Disk.{History}
+use Rattle.disk_terms.proofs.Untouched.{IsUntouchedBeside-same, IsUntouchedBeside-further, IsUntouchedBeside-wider}
 use Rattle.mast_world.specs.Changes.{IsSameBeside, IsSameSource}
 use Rattle.mast_world.specs.Content.{Files}
 use Rattle.mast_world.specs.Count.{HasRisen}
@@ -16,14 +18,32 @@ source_kept_on file absent taken faults a b c first then = record {
   faults_kept = omega (arith, first.faults_kept, then.faults_kept);
 }
 
-pub beside_kept : {A : Type 0} (touched : FileId) (reads : A → FileId → List ℕ) (put : A → FileId → ℕ) (faults : A → ℕ) (a : A) → IsSameBeside touched reads put faults a a
-beside_kept touched reads put faults a = record { same_reads = λ _ _. refl; same_put = λ _ _. refl; faults_kept = omega arith }
+pub beside_kept : {A : Type 0} (touched : FileId → Type 0) (tells : Type 0) (reads : A → FileId → List ℕ) (put : A → FileId → ℕ) (faults : A → ℕ) (history : A → History FileId) (a : A)
+    → IsSameBeside touched tells reads put faults history a a
+beside_kept touched tells reads put faults history a = record {
+  same_reads = λ _ _. refl;
+  same_put = λ _ _. refl;
+  untouched = λ _. IsUntouchedBeside-same touched (history a);
+  faults_kept = omega arith;
+}
 
-pub beside_kept_on : {A : Type 0} (touched : FileId) (reads : A → FileId → List ℕ) (put : A → FileId → ℕ) (faults : A → ℕ) (a b c : A) → IsSameBeside touched reads put faults a b → IsSameBeside touched reads put faults b c → IsSameBeside touched reads put faults a c
-beside_kept_on touched reads put faults a b c first then = record {
+pub beside_kept_on : {A : Type 0} (touched : FileId → Type 0) (tells : Type 0) (reads : A → FileId → List ℕ) (put : A → FileId → ℕ) (faults : A → ℕ) (history : A → History FileId) (a b c : A)
+    → IsSameBeside touched tells reads put faults history a b → IsSameBeside touched tells reads put faults history b c → IsSameBeside touched tells reads put faults history a c
+beside_kept_on touched tells reads put faults history a b c first then = record {
   same_reads = λ file other. then.same_reads file other ∙ first.same_reads file other;
   same_put = λ file other. then.same_put file other ∙ first.same_put file other;
+  untouched = λ t. IsUntouchedBeside-further touched (history a) (history b) (history c) (first.untouched t) (then.untouched t);
   faults_kept = omega (arith, first.faults_kept, then.faults_kept);
+}
+
+-- more files are touched
+pub beside_kept_wider : {A : Type 0} (touched more : FileId → Type 0) (tells : Type 0) (reads : A → FileId → List ℕ) (put : A → FileId → ℕ) (faults : A → ℕ) (history : A → History FileId) (a b : A)
+    → ((file : FileId) → touched file → more file) → IsSameBeside touched tells reads put faults history a b → IsSameBeside more tells reads put faults history a b
+beside_kept_wider touched more tells reads put faults history a b wider kept = record {
+  same_reads = λ file other. kept.same_reads file (λ t. other (wider file t));
+  same_put = λ file other. kept.same_put file (λ t. other (wider file t));
+  untouched = λ t. IsUntouchedBeside-wider touched more (history a) (history b) wider (kept.untouched t);
+  faults_kept = kept.faults_kept;
 }
 
 -- a count that rose later rose on the whole, and so did one that rose earlier

@@ -2,4 +2,5 @@ pub mod FileEntryLemmas
 pub mod Find
 pub mod Kept
 pub mod SameFile
+pub mod Logs
 pub mod StoredFileLemmas

@@ -1,5 +1,6 @@
 -- What steps leave of a device as it was. A device is given by what it tells and counts, and by its states before and now.
-use Rattle.std.specs.Prelude.{◌≡◌, ◌≢◌, ℕ, ◌≤◌, List}
+use Rattle.std.specs.Prelude.{◌≡◌, ℕ, ◌≤◌, List}
+use Rattle.disk_terms.specs.Disk.{History, IsRested, IsUntouchedBeside}
 use Rattle.mast_world.specs.Content.{Files}
 use Rattle.mast_world.specs.declared.volume.FileId.{FileId}
 
@@ -10,13 +11,20 @@ pub record IsSameSource {A : Type 0} (file : A → Files) (absent taken faults :
   pub taken_kept : taken before ≤ taken now
   pub faults_kept : faults before ≤ faults now
 
--- of a volume's files only this one may be another: reads of the others give the same, and nothing was put into them
-pub record IsSameBeside {A : Type 0} (touched : FileId) (reads : A → FileId → List ℕ) (put : A → FileId → ℕ) (faults : A → ℕ) (before now : A) : Type 0 where
-  pub same_reads : (file : FileId) → file ≢ touched → reads now file ≡ reads before file
-  pub same_put : (file : FileId) → file ≢ touched → put now file ≡ put before file
+-- Of a volume's files only those touched may be others: reads of the rest give the same, nothing was put into them, and
+-- at each moment since a crash leaves of them what it left before.
+pub record IsSameBeside {A : Type 0} (touched : FileId → Type 0) (tells : Type 0) (reads : A → FileId → List ℕ) (put : A → FileId → ℕ) (faults : A → ℕ) (history : A → History FileId) (before now : A) : Type 0 where
+  pub same_reads : (file : FileId) → ¬ touched file → reads now file ≡ reads before file
+  pub same_put : (file : FileId) → ¬ touched file → put now file ≡ put before file
+  pub untouched : tells → IsUntouchedBeside touched (history before) (history now)
   pub faults_kept : faults before ≤ faults now
 
--- nothing was written to a volume
-pub record IsUnwritten {A : Type 0} (reads : A → FileId → List ℕ) (put : A → FileId → ℕ) (before now : A) : Type 0 where
+-- only this file is touched
+abbrev pub Only : FileId → FileId → Type 0
+Only touched file = file ≡ touched
+
+-- nothing was written to a volume, and a crash leaves what it left before
+pub record IsUnwritten {A : Type 0} (tells : Type 0) (reads : A → FileId → List ℕ) (put : A → FileId → ℕ) (history : A → History FileId) (before now : A) : Type 0 where
   pub same_reads : (file : FileId) → reads now file ≡ reads before file
   pub same_put : (file : FileId) → put now file ≡ put before file
+  pub rested : tells → IsRested (history before) (history now)

@@ -3,5 +3,6 @@ pub mod Content
 pub mod Count
 pub mod Failing
 pub mod FileEntry
+pub mod Log
 pub mod MemFile
 pub mod StoredFile

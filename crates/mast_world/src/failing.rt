@@ -54,4 +54,17 @@ impl Failing {
         self.faults = count_on(self.faults, 1);
         Failed
     }
+
+    /// Fails where that wasn't done, as for want of memory.
+    pub(crate) fn or_fail<E: Drop>(&mut self, done: Result<(), E>) -> Result<(), Failed>
+        ensures same { IsErr result ↔ IsErr done }
+        ensures ok { OnOk result (self.new ≡ self.old) }
+        ensures err { OnErr result (self.new ≡ record self.old { faults = counted self.old.faults 1 }) }
+        ensures kept { self.old.faults ≤ self.new.faults }
+    {
+        match done {
+            Ok(()) => Ok(()),
+            Err(_) => Err(self.fail()),
+        }
+    }
 }

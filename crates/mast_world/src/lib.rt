@@ -1,6 +1,7 @@
 //! The world around the engine: devices and what a device may do, as traits and in memory.
 #![tactic(auto)]
 
+mod change;
 mod failing;
 mod faults;
 mod file_entry;

@@ -1,15 +1,18 @@
 ghost use Rattle.std.specs.Prelude.{◌≡◌, ◌≢◌, ◌≤◌, IfOk, OnOk, OnErr, [], length, take};
 ghost use Rattle.mast_world.specs.Content.{overwritten};
 ghost use Rattle.mast_world.specs.FileEntry.{FirstAt};
+ghost use Rattle.disk_terms.specs.Disk.{IsCutTo, IsRested, IsSynced, IsWritten};
+ghost use Rattle.mast_world.specs.Log.{history_of, nothing_there};
 ghost use Rattle.mast_world.specs.StoredFile.{stored_bytes, stored_put};
 ghost use Rattle.mast_world.specs.Count.{counted_on_ok};
 ghost use Rattle.mast_world.specs.declared.volume.FileId.{FileId};
 ghost use Rattle.mast_world.specs.Failing.{planned_failures};
 
+use crate::change::Change;
 use crate::failing::{Failing, count_on};
 use crate::file_entry::{FileEntry, position_of};
 use crate::{Failed, FileId, Volume};
-use mast_base::List;
+use mast_base::{Bytes, List, NoMemory};
 use std::alloc::{AllocError, Global};
 
 /// A file of a volume in memory.
@@ -24,6 +27,7 @@ struct StoredFile {
 pub struct MemVolume {
     alloc: Global,
     stored: Vec<FileEntry<StoredFile>>,
+    log: Vec<Change>,
     failing: Failing,
 }
 
@@ -33,10 +37,12 @@ impl MemVolume {
         ensures faults { ⟦<MemVolume as Volume>⟧.faults result ≡ 0 }
         ensures failing { result.failing ≡ planned_failures failing }
         ensures put { (file : FileId) → ⟦<MemVolume as Volume>⟧.put result file ≡ 0 }
+        ensures history { ⟦<MemVolume as Volume>⟧.history result ≡ nothing_there }
     {
         MemVolume {
             alloc,
             stored: Vec::new(alloc),
+            log: Vec::new(alloc),
             failing: Failing::new(failing),
         }
     }
@@ -51,6 +57,19 @@ impl MemVolume {
         }
     }
 
+    /// Notes that a file stands on the disk as reads give it.
+    fn note_sync(&mut self, file: FileId) -> Result<(), NoMemory>
+        ensures synced { OnOk result (IsSynced file (stored_bytes self.old.stored.items file)
+            (history_of self.old.log.items) (history_of self.new.log.items)) }
+        ensures rested { OnErr result (IsRested (history_of self.old.log.items) (history_of self.new.log.items)) }
+        ensures same_stored { self.new.stored.items ≡ self.old.stored.items }
+        ensures same_failing { self.new.failing ≡ self.old.failing }
+    {
+        let bytes = Bytes::copy_of(self.alloc, self.bytes(file))?;
+        self.log.push(Change::Synced { file, bytes })?;
+        Ok(())
+    }
+
     /// How many bytes were written to a file.
     pub fn put(&self, file: FileId) -> u64
         ensures { result ≡ ⟦<MemVolume as Volume>⟧.put self.now file }
@@ -60,6 +79,24 @@ impl MemVolume {
             None => 0,
         }
     }
+}
+
+/// Notes that bytes of a file are to be written.
+fn note_written(log: &mut Vec<Change>, file: FileId, at: u64, size: u64) -> Result<(), AllocError>
+    ensures moment { OnOk result (IsWritten file at size (history_of log.old.items) (history_of log.new.items)) }
+    ensures rested { OnErr result (IsRested (history_of log.old.items) (history_of log.new.items)) }
+{
+    log.push(Change::Written { file, at, size })?;
+    Ok(())
+}
+
+/// Notes that a file is to be cut.
+fn note_cut(log: &mut Vec<Change>, file: FileId, size: u64) -> Result<(), AllocError>
+    ensures moment { OnOk result (IsCutTo file size (history_of log.old.items) (history_of log.new.items)) }
+    ensures rested { OnErr result (IsRested (history_of log.old.items) (history_of log.new.items)) }
+{
+    log.push(Change::Cut { file, size })?;
+    Ok(())
 }
 
 /// Where the entry of a file stands, which is made where there is none.
@@ -107,6 +144,7 @@ fn write_entry(
     requires first { FirstAt stored.old file entry }
     requires at { at ≤ length (stored_bytes stored.old file) }
     ensures written { OnOk result (stored_bytes stored.new file ≡ overwritten (stored_bytes stored.old file) at bytes.now) }
+    ensures unwritten { OnErr result (stored_bytes stored.new file ≡ stored_bytes stored.old file) }
     ensures other_bytes { (f : FileId) → f ≢ file → stored_bytes stored.new f ≡ stored_bytes stored.old f }
     ensures count_put { stored_put stored.new file ≡ counted_on_ok (stored_put stored.old file) (length bytes.now) result }
     ensures other_put { (f : FileId) → f ≢ file → stored_put stored.new f ≡ stored_put stored.old f }
@@ -127,6 +165,7 @@ fn write_to(
 ) -> Result<(), AllocError>
     requires { at ≤ length (stored_bytes stored.old.items file) }
     ensures written { OnOk result (stored_bytes stored.new.items file ≡ overwritten (stored_bytes stored.old.items file) at bytes.now) }
+    ensures unwritten { OnErr result (stored_bytes stored.new.items file ≡ stored_bytes stored.old.items file) }
     ensures other_bytes { (f : FileId) → f ≢ file → stored_bytes stored.new.items f ≡ stored_bytes stored.old.items f }
     ensures count_put { stored_put stored.new.items file ≡ counted_on_ok (stored_put stored.old.items file) (length bytes.now) result }
     ensures other_put { (f : FileId) → f ≢ file → stored_put stored.new.items f ≡ stored_put stored.old.items f }
@@ -147,10 +186,21 @@ fn cut_to(stored: &mut [FileEntry<StoredFile>], file: FileId, len: usize)
     }
 }
 
+/// Shortens a file of a table.
+fn shorten(stored: &mut Vec<FileEntry<StoredFile>>, file: FileId, len: usize)
+    ensures shortened { stored_bytes stored.new.items file ≡ take len (stored_bytes stored.old.items file) }
+    ensures other_bytes { (f : FileId) → f ≢ file → stored_bytes stored.new.items f ≡ stored_bytes stored.old.items f }
+    ensures same_put { stored_put stored.new.items ≡ stored_put stored.old.items }
+{
+    cut_to(stored.as_mut_slice(), file, len);
+}
+
 impl Volume for MemVolume {
     ghost tells = { Unit {0} };
 
     ghost reads = { λ volume. stored_bytes volume.stored.items };
+
+    ghost history = { λ volume. history_of volume.log.items };
 
     ghost faults = { λ volume. volume.failing.faults };
 
@@ -169,20 +219,25 @@ impl Volume for MemVolume {
     }
 
     fn write(&mut self, file: FileId, at: u64, bytes: &[u8]) -> Result<(), Failed> {
+        let size = bytes.len() as u64;
+        let noted = note_written(&mut self.log, file, at, size);
         self.failing.count_call()?;
-        match write_to(self.alloc, &mut self.stored, file, at as usize, bytes) {
-            Ok(()) => Ok(()),
-            Err(_) => Err(self.failing.fail()),
-        }
+        self.failing.or_fail(noted)?;
+        let written = write_to(self.alloc, &mut self.stored, file, at as usize, bytes);
+        self.failing.or_fail(written)
     }
 
     fn cut(&mut self, file: FileId, len: u64) -> Result<(), Failed> {
+        let noted = note_cut(&mut self.log, file, len);
         self.failing.count_call()?;
-        cut_to(self.stored.as_mut_slice(), file, len as usize);
+        self.failing.or_fail(noted)?;
+        shorten(&mut self.stored, file, len as usize);
         Ok(())
     }
 
-    fn sync(&mut self, _file: FileId) -> Result<(), Failed> {
-        self.failing.count_call()
+    fn sync(&mut self, file: FileId) -> Result<(), Failed> {
+        self.failing.count_call()?;
+        let noted = self.note_sync(file);
+        self.failing.or_fail(noted)
     }
 }

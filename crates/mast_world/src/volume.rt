@@ -1,4 +1,7 @@
-ghost use Rattle.std.specs.Prelude.{◌≡◌, ◌≢◌, ◌≤◌, ◌+◌, ℕ, List, length, take, IfOk, OnOk};
+ghost use Rattle.std.specs.Prelude.{◌≡◌, ◌≤◌, ◌+◌, ℕ, List, length, take, IfOk, OnErr, OnOk};
+ghost use Rattle.disk_terms.specs.Disk.{DiffersWithin, History, IsCutAtMost, IsCutTo, IsCutWithin, IsImage};
+ghost use Rattle.disk_terms.specs.Disk.{IsRested, IsSynced, IsWritten, IsWrittenAtMost};
+ghost use Rattle.mast_world.specs.Changes.{IsSameBeside, Only};
 ghost use Rattle.mast_world.specs.Content.{part, overwritten};
 ghost use Rattle.mast_world.specs.Count.{counted_on_ok, IsFaultCount};
 ghost use Rattle.mast_world.specs.declared.volume.FileId.{FileId};
@@ -20,12 +23,18 @@ pub enum FileId {
 }
 
 /// The output folder: a fixed table of files. A file that isn't there is an empty one.
+///
+/// A call is one moment of the history: a crash in the middle of it leaves an image of the disk in front of it or of that
+/// behind it.
 pub trait Volume {
     /// Holds of a kind of volume that tells its contents.
     ghost tells: { Type 0 };
 
     /// What reads of a file give, where contents are told.
     ghost reads: { Self → FileId → List ℕ };
+
+    /// What a crash may leave of the files, now and at each moment so far, where contents are told.
+    ghost history: { Self → History FileId };
 
     /// How often the volume has failed.
     ghost faults: { Self → ℕ };
@@ -38,6 +47,7 @@ pub trait Volume {
         ensures length { tells → IfOk result (λ n. n ≡ length (reads self.old file)) }
 
         ensures same_reads { reads self.new ≡ reads self.old }
+        ensures rested { tells → IsRested (history self.old) (history self.new) }
         ensures same_put { put self.new ≡ put self.old }
 
         ensures faults { IsFaultCount (faults self.old) (faults self.new) result };
@@ -49,6 +59,7 @@ pub trait Volume {
         ensures bytes { tells → OnOk result (into.new ≡ part (reads self.old file) at (length into.old)) }
 
         ensures same_reads { reads self.new ≡ reads self.old }
+        ensures rested { tells → IsRested (history self.old) (history self.new) }
         ensures same_put { put self.new ≡ put self.old }
 
         ensures faults { IsFaultCount (faults self.old) (faults self.new) result };
@@ -58,26 +69,47 @@ pub trait Volume {
         requires { tells → at ≤ length (reads self.old file) }
 
         ensures written { tells → OnOk result (reads self.new file ≡ overwritten (reads self.old file) at bytes.now) }
-        ensures other_reads { (f : FileId) → f ≢ file → reads self.new f ≡ reads self.old f }
+        ensures partly_written { tells → OnErr result (DiffersWithin (record { at = at; size = length bytes.now })
+            (reads self.old file) (reads self.new file)) }
+
+        ensures moment { tells
+            → OnOk result (IsWritten file at (length bytes.now) (history self.old) (history self.new)) }
+        ensures moment_at_most { tells
+            → OnErr result (IsWrittenAtMost file at (length bytes.now) (history self.old) (history self.new)) }
+        ensures left { tells → IsImage (history self.old).newest (reads self.old)
+            → IsImage (history self.new).newest (reads self.new) }
 
         ensures count_put { put self.new file ≡ counted_on_ok (put self.old file) (length bytes.now) result }
-        ensures other_put { (f : FileId) → f ≢ file → put self.new f ≡ put self.old f }
+        ensures beside { IsSameBeside (Only file) tells reads put faults history self.old self.new }
 
         ensures faults { IsFaultCount (faults self.old) (faults self.new) result };
 
     /// Shortens a file to `len` bytes. One that isn't longer stays as it is.
     fn cut(&mut self, file: FileId, len: u64) -> Result<(), Failed>
         ensures shortened { tells → OnOk result (reads self.new file ≡ take len (reads self.old file)) }
-        ensures other_reads { (f : FileId) → f ≢ file → reads self.new f ≡ reads self.old f }
+        ensures partly_shortened { tells → OnErr result (IsCutWithin len (reads self.old file) (reads self.new file)) }
+
+        ensures moment { tells → OnOk result (IsCutTo file len (history self.old) (history self.new)) }
+        ensures moment_at_most { tells → OnErr result (IsCutAtMost file len (history self.old) (history self.new)) }
+        ensures left { tells → IsImage (history self.old).newest (reads self.old)
+            → IsImage (history self.new).newest (reads self.new) }
 
         ensures same_put { put self.new ≡ put self.old }
+        ensures beside { IsSameBeside (Only file) tells reads put faults history self.old self.new }
 
         ensures faults { IsFaultCount (faults self.old) (faults self.new) result };
 
-    /// Waits until the file is on the disk.
+    /// Waits until the file is on the disk. Where it fails, that stays as unknown as it was.
     fn sync(&mut self, file: FileId) -> Result<(), Failed>
         ensures same_reads { reads self.new ≡ reads self.old }
+
+        ensures synced { tells → OnOk result (IsSynced file (reads self.old file) (history self.old) (history self.new)) }
+        ensures rested { tells → OnErr result (IsRested (history self.old) (history self.new)) }
+        ensures left { tells → IsImage (history self.old).newest (reads self.old)
+            → IsImage (history self.new).newest (reads self.new) }
+
         ensures same_put { put self.new ≡ put self.old }
+        ensures beside { IsSameBeside (Only file) tells reads put faults history self.old self.new }
 
         ensures faults { IsFaultCount (faults self.old) (faults self.new) result };
 }
