@@ -1,6 +1,7 @@
-ghost use Rattle.std.specs.Prelude.{◌≡◌, ◌≢◌, [], IfOk, IfSome, OnErr, OnOk, length};
+ghost use Rattle.std.specs.Prelude.{◌≡◌, ◌≢◌, ◌≤◌, [], IfOk, IfSome, OnErr, OnOk, length};
 ghost use Rattle.mast_world.specs.Count.{counted, counted_on_ok};
 ghost use Rattle.mast_world.specs.FileEntry.{FirstAt};
+ghost use Rattle.mast_world.specs.Log.{nothing_there};
 ghost use Rattle.mast_world.specs.declared.volume.FileId.{FileId};
 ghost use Rattle.mast_real.specs.FolderFile.{folder_put};
 
@@ -27,6 +28,8 @@ pub struct FolderVolume<R: Files<File = File> + Drop> {
     folder: String,
     files: Vec<FileEntry<FolderFile>>,
     faults: u64,
+    /// A sync failed. The system may then take what it couldn't write for written, so that later syncs say nothing.
+    is_lost: bool,
 }
 
 impl<R: Files<File = File> + Drop> FolderVolume<R> {
@@ -37,6 +40,7 @@ impl<R: Files<File = File> + Drop> FolderVolume<R> {
             folder,
             files: Vec::new(alloc),
             faults: 0,
+            is_lost: false,
         }
     }
 }
@@ -156,7 +160,8 @@ impl<R: Files<File = File> + Drop> FolderVolume<R> {
     }
 
     fn fail(&mut self) -> Failed
-        ensures { self.new ≡ record self.old { faults = counted self.old.faults 1 } }
+        ensures counted { self.new ≡ record self.old { faults = counted self.old.faults 1 } }
+        ensures kept { self.old.faults ≤ self.new.faults }
     {
         self.faults = count_on(self.faults, 1);
         Failed
@@ -184,6 +189,8 @@ impl<R: Files<File = File> + Drop> Volume for FolderVolume<R> {
     ghost tells = { ⊥ };
 
     ghost reads = { λ _ _. [] };
+
+    ghost history = { λ _. nothing_there };
 
     ghost faults = { λ volume. volume.faults };
 
@@ -218,9 +225,15 @@ impl<R: Files<File = File> + Drop> Volume for FolderVolume<R> {
     }
 
     fn sync(&mut self, file: FileId) -> Result<(), Failed> {
+        if self.is_lost {
+            return Err(self.fail());
+        }
         match self.sync_of(file) {
             Ok(()) => Ok(()),
-            Err(_) => Err(self.fail()),
+            Err(_) => {
+                self.is_lost = true;
+                Err(self.fail())
+            }
         }
     }
 }
