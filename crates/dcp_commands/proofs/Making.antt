@@ -18,6 +18,7 @@ use Rattle.make_engine.specs.declared.outcome.FrameEnd.TheVariants as of_frame
 use Rattle.make_engine.specs.declared.outcome.MakeEnd.{MakeEnd}
 use Rattle.make_engine.specs.declared.outcome.MakeEnd.TheVariants as of_make
 use Rattle.make_engine.specs.declared.outcome.Report.{Report}
+use Rattle.disk_terms.specs.Disk.{History}
 use Rattle.mast_world.specs.Content.{Files}
 use Rattle.mast_world.specs.Count.{HasRisen, counted}
 use Rattle.mast_world.specs.declared.volume.FileId.{FileId}
@@ -190,15 +191,15 @@ frame_cause tells files project absent faults before between now of_frame.NoMemo
 -- why no package was made, as it is seen from an earlier state of the source
 pub make_cause :
     {A B : Type 0} (tells : Type 0) (files : Files) (project : ProjectFacts) (absent faults : A → ℕ) (before between now : A)
-    (reads : B → FileId → List ℕ) (put : B → FileId → ℕ) (store_faults : B → ℕ) (volume volume_now : B) (end : MakeEnd) →
+    (store_tells : Type 0) (reads : B → FileId → List ℕ) (put : B → FileId → ℕ) (store_faults : B → ℕ) (history : B → History FileId) (volume volume_now : B) (end : MakeEnd) →
     absent before ≤ absent between → faults before ≤ faults between →
-    IsMakeCause tells files project absent faults between now reads put store_faults volume volume_now end →
-    IsMakeCause tells files project absent faults before now reads put store_faults volume volume_now end
-make_cause tells files project absent faults before between now reads put store_faults volume volume_now (of_make.Frame end) fewer less is =
+    IsMakeCause tells files project absent faults between now store_tells reads put store_faults history volume volume_now end →
+    IsMakeCause tells files project absent faults before now store_tells reads put store_faults history volume volume_now end
+make_cause tells files project absent faults before between now store_tells reads put store_faults history volume volume_now (of_make.Frame end) fewer less is =
     frame_cause tells files project absent faults before between now end fewer less is
-make_cause tells files project absent faults before between now reads put store_faults volume volume_now of_make.StoreFault fewer less is = is
-make_cause tells files project absent faults before between now reads put store_faults volume volume_now of_make.Unbuilt fewer less is = is
-make_cause tells files project absent faults before between now reads put store_faults volume volume_now of_make.NoMemory fewer less is = is
+make_cause tells files project absent faults before between now store_tells reads put store_faults history volume volume_now of_make.StoreFault fewer less is = is
+make_cause tells files project absent faults before between now store_tells reads put store_faults history volume volume_now of_make.Unbuilt fewer less is = is
+make_cause tells files project absent faults before between now store_tells reads put store_faults history volume volume_now of_make.NoMemory fewer less is = is
 
 -- where nothing else is in the way, want of memory is left, also as it is seen from an earlier state of the source
 pub left_by :
@@ -215,18 +216,18 @@ left_by tells files between_files project faults before between now store_faults
     cause_of made end IsOutOfMemory was (complete told on seen calmer still)
 
 module _ {A B C : Type 0} (tells : Type 0) (files : Files) (words : List (List ℕ)) (absent faults : A → ℕ) (before now : A)
-    (reads : B → FileId → List ℕ) (put : B → FileId → ℕ) (store_faults : B → ℕ) (volume volume_now : B) (sink_faults : C → ℕ) (out out_now : C) where
+    (store_tells : Type 0) (reads : B → FileId → List ℕ) (put : B → FileId → ℕ) (store_faults : B → ℕ) (history : B → History FileId) (volume volume_now : B) (sink_faults : C → ℕ) (out out_now : C) where
   abbrev Stops : Stopped → Type 0
-  Stops = IsStop tells files words absent faults before now reads put store_faults volume volume_now
+  Stops = IsStop tells files words absent faults before now store_tells reads put store_faults history volume volume_now
 
   abbrev PlanStops : PlanEnd → Type 0
-  PlanStops = IsPlanStop tells files words absent faults before now reads put store_faults volume volume_now
+  PlanStops = IsPlanStop tells files words absent faults before now store_tells reads put store_faults history volume volume_now
 
   abbrev MakeStops : MakeEnd → Type 0
-  MakeStops = IsMakeStop tells files words absent faults before now reads put store_faults volume volume_now
+  MakeStops = IsMakeStop tells files words absent faults before now store_tells reads put store_faults history volume volume_now
 
   abbrev Causes : Status → Type 0
-  Causes = IsCause tells files words absent faults before now reads put store_faults volume volume_now sink_faults out out_now
+  Causes = IsCause tells files words absent faults before now store_tells reads put store_faults history volume volume_now sink_faults out out_now
 
   refused_cause : (refusal : ProjectRefusal) → PlanStops (of_plan.Project refusal) → Causes (refused_status refusal)
   refused_cause refusal is = elim (told_apart refusal) [

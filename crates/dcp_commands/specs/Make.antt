@@ -13,6 +13,7 @@ use Rattle.make_engine.specs.Engine.{HasFrameItems}
 use Rattle.make_engine.specs.Package.{frames_size, is_built, picture_of}
 use Rattle.make_engine.specs.declared.outcome.MakeEnd.{MakeEnd}
 use Rattle.make_engine.specs.declared.outcome.MakeEnd.TheVariants as of_make
+use Rattle.disk_terms.specs.Disk.{History}
 use Rattle.mast_world.specs.Changes.{IsUnwritten}
 use Rattle.mast_world.specs.Content.{Files}
 use Rattle.mast_world.specs.Count.{HasRisen, counted}
@@ -115,16 +116,16 @@ pub record IsBadInProject (tells : Type 0) (files : Files) (words : List (List �
 -- Devices are given by what they tell and count, and by their states before and now.
 module _ {A B : Type 0} (tells : Type 0) (files : Files) (words : List (List ℕ))
     (absent faults : A → ℕ) (before now : A)
-    (reads : B → FileId → List ℕ) (put : B → FileId → ℕ) (store_faults : B → ℕ) (volume volume_now : B) where
+    (store_tells : Type 0) (reads : B → FileId → List ℕ) (put : B → FileId → ℕ) (store_faults : B → ℕ) (history : B → History FileId) (volume volume_now : B) where
   -- before a frame is read it ends so, and nothing was written
   abbrev pub IsEarly : Status → Type 0
-  IsEarly status = (tells → checked files words ≡ Err status) × IsUnwritten reads put volume volume_now
+  IsEarly status = (tells → checked files words ≡ Err status) × IsUnwritten store_tells reads put history volume volume_now
 
   -- why `make` ended so; {C} is the sink
   abbrev pub IsCause : {C : Type 0} → (C → ℕ) → C → C → Status → Type 0
   IsCause sink_faults out out_now Done =
       (faults now ≡ faults before) × (store_faults volume_now ≡ store_faults volume) × (sink_faults out_now ≡ sink_faults out)
-  IsCause sink_faults out out_now Usage = (make_words words ≡ None) × IsUnwritten reads put volume volume_now
+  IsCause sink_faults out out_now Usage = (make_words words ≡ None) × IsUnwritten store_tells reads put history volume volume_now
   IsCause sink_faults out out_now (ProjectRefused refusal) = IsEarly (ProjectRefused refusal)
   IsCause sink_faults out out_now (InputMissing name) =
       HasRisen (absent before) (absent now)
@@ -145,7 +146,7 @@ module _ {A B : Type 0} (tells : Type 0) (files : Files) (words : List (List ℕ
     pub asked : MakeWords
     pub accepted : make_words words ≡ Some asked
     pub cause : IsPlanCause tells files asked.project absent faults before now end
-    pub unwritten : IsUnwritten reads put volume volume_now
+    pub unwritten : IsUnwritten store_tells reads put history volume volume_now
 
   -- the package of the words' project ended so
   pub record IsMakeStop (end : MakeEnd) : Type 0 where
@@ -155,13 +156,13 @@ module _ {A B : Type 0} (tells : Type 0) (files : Files) (words : List (List ℕ
     pub rules : IsProject project
     pub told : tells → planned files asked.project ≡ Ok project
     pub off : IsFalse (is_built project) → end ≡ of_make.Unbuilt
-    pub cause : IsMakeCause tells files project absent faults before now reads put store_faults volume volume_now end
+    pub cause : IsMakeCause tells files project absent faults before now store_tells reads put store_faults history volume volume_now end
     pub left : tells → IsTrue (is_built project) → IsOk (picture_of files project)
         → ¬ HasRisen (faults before) (faults now) → ¬ HasRisen (store_faults volume) (store_faults volume_now) → IsOutOfMemory end
 
   -- why there is no text of `Done`
   abbrev pub IsStop : Stopped → Type 0
-  IsStop stop.Usage = (make_words words ≡ None) × IsUnwritten reads put volume volume_now
+  IsStop stop.Usage = (make_words words ≡ None) × IsUnwritten store_tells reads put history volume volume_now
   IsStop (stop.Plan end) = IsPlanStop end
   IsStop (stop.Make end) = IsMakeStop end
   IsStop (stop.Read end) = ⊥

@@ -1,6 +1,8 @@
-ghost use Rattle.std.specs.Prelude.{◌≡◌, ◌⊎◌, None, Err, IfOk, IfErr, OnOk, IsSome, length, map, string_bytes};
-ghost use Rattle.mast_world.specs.Changes.{IsSameBeside, IsSameSource};
+ghost use Rattle.std.specs.Prelude.{◌≡◌, ◌⊎◌, ℕ, List, None, Err, IfOk, IfErr, OnOk, IsSome, length, map, string_bytes};
+ghost use Rattle.disk_terms.specs.Disk.{IsImage, at_rest};
+ghost use Rattle.mast_world.specs.Changes.{IsSameBeside, IsSameSource, Only};
 ghost use Rattle.mast_world.specs.Count.{HasRisen, counted};
+ghost use Rattle.mast_world.specs.declared.volume.FileId.{FileId};
 ghost use Rattle.mast_world.specs.declared.volume.FileId.TheVariants.{Picture};
 ghost use Rattle.dcp_commands.specs.Line.{IsPrinted};
 ghost use Rattle.dcp_commands.specs.Make.{HasEncodedFrames, IsCause, IsMadeText, IsPackage, IsPictureFile, IsStop, checked, package_of};
@@ -36,6 +38,8 @@ fn make_package<S: Source, V: Volume>(
         (V.reads volume.new (Picture 1)) (S.taken source.old) (S.taken source.new)) }
     ensures put { V.tells
         → OnOk result (V.put volume.new (Picture 1) ≡ counted (V.put volume.old (Picture 1)) (length (V.reads volume.new (Picture 1)))) }
+    ensures at_rest { V.tells
+        → OnOk result ((V.history volume.new).newest (Picture 1) ≡ at_rest (V.reads volume.new (Picture 1))) }
     ensures encoded { S.tells → OnOk result (HasEncodedFrames (S.file source.old) (map string_bytes words.now)) }
     ensures values { V.tells → OnOk result (IsPictureFile (V.reads volume.new (Picture 1))) }
     ensures text { IfOk result (IsMadeText S.tells (S.file source.old) (map string_bytes words.now)) }
@@ -44,9 +48,9 @@ fn make_package<S: Source, V: Volume>(
 
     ensures refused { make_words (map string_bytes words.now) ≡ None → result ≡ Err Stopped.Usage }
     ensures ended { IfErr result (IsStop S.tells (S.file source.old) (map string_bytes words.now)
-        S.absent S.faults source.old source.new V.reads V.put V.faults volume.old volume.new) }
+        S.absent S.faults source.old source.new V.tells V.reads V.put V.faults V.history volume.old volume.new) }
     ensures kept { IsSameSource S.file S.absent S.taken S.faults source.old source.new }
-    ensures beside { IsSameBeside (Picture 1) V.reads V.put V.faults volume.old volume.new }
+    ensures beside { IsSameBeside (Only (Picture 1)) V.tells V.reads V.put V.faults V.history volume.old volume.new }
 {
     let Some(asked) = make_words(words) else {
         return Err(Stopped::Usage);
@@ -72,6 +76,10 @@ pub fn run_make<S: Source, V: Volume, O: Sink>(
     ensures put { V.tells → result ≡ Status.Done
         → V.put volume.new (Picture 1) ≡ counted (V.put volume.old (Picture 1)) (length (V.reads volume.new (Picture 1))) }
 
+    // Each image that a crash may leave then has this picture file.
+    ensures on_disk { V.tells → result ≡ Status.Done → (image : FileId → List ℕ)
+        → IsImage (V.history volume.new).newest image → image (Picture 1) ≡ V.reads volume.new (Picture 1) }
+
     // Each of its frames that was encoded is read back to its quantised coefficients down to the bit-planes that its cut
     // keeps, within the limits; and whatever the source tells, each frame's codestream is within them.
     ensures encoded { S.tells → result ≡ Status.Done → HasEncodedFrames (S.file source.old) (map string_bytes words.now) }
@@ -80,14 +88,14 @@ pub fn run_make<S: Source, V: Volume, O: Sink>(
     // Why it ended so, status by status; and the other way: words, project and inputs that end the command before a frame
     // is read do so, the first cause in their order.
     ensures cause { IsCause S.tells (S.file source.old) (map string_bytes words.now)
-        S.absent S.faults source.old source.new V.reads V.put V.faults volume.old volume.new O.faults out.old out.new result }
+        S.absent S.faults source.old source.new V.tells V.reads V.put V.faults V.history volume.old volume.new O.faults out.old out.new result }
     ensures told { (status : Status) → S.tells → checked (S.file source.old) (map string_bytes words.now) ≡ Err status
         → (result ≡ Status.SourceFault) ⊎ Answers result status }
     ensures refused { make_words (map string_bytes words.now) ≡ None → Answers result Status.Usage }
 
     // What stays in any case.
     ensures kept { IsSameSource S.file S.absent S.taken S.faults source.old source.new }
-    ensures beside { IsSameBeside (Picture 1) V.reads V.put V.faults volume.old volume.new }
+    ensures beside { IsSameBeside (Only (Picture 1)) V.tells V.reads V.put V.faults V.history volume.old volume.new }
 
     // The line that is printed; that of `Done` has the project's number of frames.
     ensures printed { O.tells

@@ -9,6 +9,7 @@ use Rattle.film_timeline.specs.Timeline.{cells_of, fresh_cells}
 use Rattle.film_timeline.specs.declared.cell.Cell.{Cell}
 use Rattle.frame_values.specs.Shown.{Shown, cell_shown, cells_shown}
 use Rattle.frame_values.specs.declared.ends.CellEnd.{CellEnd}
+use Rattle.disk_terms.specs.Disk.{History}
 use Rattle.mast_world.specs.Content.{Files}
 use Rattle.mast_world.specs.Count.{HasRisen}
 use Rattle.mast_world.specs.declared.volume.FileId.{FileId}
@@ -88,14 +89,14 @@ frame_cause tells files project absent faults before between now of_frame.NoMemo
 -- how copying the frames ends the making of a package, as it is seen from an earlier state of the volume
 pub copy_cause :
     {A B : Type 0} (tells : Type 0) (files : Files) (project : ProjectFacts) (absent faults : A → ℕ) (before now : A)
-    (reads : B → FileId → List ℕ) (put : B → FileId → ℕ) (store_faults : B → ℕ) (first volume volume_now : B) (end : MakeEnd) →
+    (store_tells : Type 0) (reads : B → FileId → List ℕ) (put : B → FileId → ℕ) (store_faults : B → ℕ) (history : B → History FileId) (first volume volume_now : B) (end : MakeEnd) →
     store_faults first ≤ store_faults volume →
     IsCopyCause tells files project absent faults before now store_faults volume volume_now end →
-    IsMakeCause tells files project absent faults before now reads put store_faults first volume_now end
-copy_cause tells files project absent faults before now reads put store_faults first volume volume_now (Frame end) less is = is
-copy_cause tells files project absent faults before now reads put store_faults first volume volume_now StoreFault less is = omega (arith, is)
-copy_cause tells files project absent faults before now reads put store_faults first volume volume_now Unbuilt less is = absurd is
-copy_cause tells files project absent faults before now reads put store_faults first volume volume_now NoMemory less is = absurd is
+    IsMakeCause tells files project absent faults before now store_tells reads put store_faults history first volume_now end
+copy_cause tells files project absent faults before now store_tells reads put store_faults history first volume volume_now (Frame end) less is = is
+copy_cause tells files project absent faults before now store_tells reads put store_faults history first volume volume_now StoreFault less is = omega (arith, is)
+copy_cause tells files project absent faults before now store_tells reads put store_faults history first volume volume_now Unbuilt less is = absurd is
+copy_cause tells files project absent faults before now store_tells reads put store_faults history first volume volume_now NoMemory less is = absurd is
 
 pub copy_left :
     {A B : Type 0} {tells : Type 0} (told : tells) (files : Files) (project : ProjectFacts) (absent faults : A → ℕ) (before now : A)

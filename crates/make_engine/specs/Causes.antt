@@ -7,6 +7,7 @@ use Rattle.frame_values.specs.Causes.{IsFault, IsInFile}
 use Rattle.frame_values.specs.Shown.{cell_shown, cells_shown}
 use Rattle.frame_values.specs.declared.ends.BadWhy.{BadWhy}
 use Rattle.frame_values.specs.declared.ends.CellEnd.TheVariants as of_cell
+use Rattle.disk_terms.specs.Disk.{History}
 use Rattle.mast_world.specs.Changes.{IsUnwritten}
 use Rattle.mast_world.specs.Content.{Files}
 use Rattle.mast_world.specs.Count.{HasRisen}
@@ -69,11 +70,11 @@ module _ {A : Type 0} (tells : Type 0) (files : Files) where
     IsCopyCause store_faults volume volume_now NoMemory = ⊥
 
     -- of making the package
-    abbrev pub IsMakeCause : (B → FileId → List ℕ) → (B → FileId → ℕ) → (B → ℕ) → B → B → MakeEnd → Type 0
-    IsMakeCause reads put store_faults volume volume_now (Frame end) = IsFrameCause project absent faults before now end
-    IsMakeCause reads put store_faults volume volume_now StoreFault = HasRisen (store_faults volume) (store_faults volume_now)
-    IsMakeCause reads put store_faults volume volume_now Unbuilt = IsFalse (is_built project) × IsUnwritten reads put volume volume_now
-    IsMakeCause reads put store_faults volume volume_now NoMemory = IsUnwritten reads put volume volume_now
+    abbrev pub IsMakeCause : Type 0 → (B → FileId → List ℕ) → (B → FileId → ℕ) → (B → ℕ) → (B → History FileId) → B → B → MakeEnd → Type 0
+    IsMakeCause store_tells reads put store_faults history volume volume_now (Frame end) = IsFrameCause project absent faults before now end
+    IsMakeCause store_tells reads put store_faults history volume volume_now StoreFault = HasRisen (store_faults volume) (store_faults volume_now)
+    IsMakeCause store_tells reads put store_faults history volume volume_now Unbuilt = IsFalse (is_built project) × IsUnwritten store_tells reads put history volume volume_now
+    IsMakeCause store_tells reads put store_faults history volume volume_now NoMemory = IsUnwritten store_tells reads put history volume volume_now
 
 -- ends for want of memory
 abbrev pub IsOutOfMemory : MakeEnd → Type 0

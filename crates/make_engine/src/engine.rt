@@ -1,11 +1,12 @@
 ghost use Rattle.std.specs.Prelude.{◌≡◌, ◌++◌, [], Err, IfOk, IfErr, OnOk, IsOk, IsTrue, IsFalse, length};
+ghost use Rattle.disk_terms.specs.Disk.{at_rest};
 ghost use Rattle.make_engine.specs.Causes.{IsCopyCause, IsMakeCause, IsOutOfMemory};
 ghost use Rattle.frame_values.specs.Causes.{AreEncodedFrames};
 ghost use Rattle.make_engine.specs.Engine.{HasCopied, HasFrameItems, IsMade};
 ghost use Rattle.make_engine.specs.Package.{is_built, picture_of};
 ghost use Rattle.make_engine.specs.declared.engine.TheConstants.{PICTURE};
 ghost use Rattle.make_engine.specs.declared.item.TheConstants.{ROOM};
-ghost use Rattle.mast_world.specs.Changes.{IsSameBeside, IsSameSource};
+ghost use Rattle.mast_world.specs.Changes.{IsSameBeside, IsSameSource, Only};
 ghost use Rattle.mast_world.specs.Count.{HasRisen, counted, counted_on_ok, IsFaultCount};
 ghost use Rattle.mast_world.specs.declared.volume.FileId.TheVariants.{Picture};
 
@@ -32,7 +33,7 @@ fn append<V: Volume>(volume: &mut V, place: u64, item: &[u8]) -> Result<(), Fail
 
     ensures written { V.tells → OnOk result (V.reads volume.new PICTURE ≡ V.reads volume.old PICTURE ++ item.now) }
     ensures put { V.put volume.new PICTURE ≡ counted_on_ok (V.put volume.old PICTURE) (length item.now) result }
-    ensures beside { IsSameBeside PICTURE V.reads V.put V.faults volume.old volume.new }
+    ensures beside { IsSameBeside (Only PICTURE) V.tells V.reads V.put V.faults V.history volume.old volume.new }
     ensures faults { IsFaultCount (V.faults volume.old) (V.faults volume.new) result }
 {
     volume.write(PICTURE, place, item)
@@ -65,7 +66,7 @@ fn copy_frames<S: Source, V: Volume>(
     ensures source_untroubled { OnOk result (S.faults source.new ≡ S.faults source.old) }
     ensures volume_untroubled { OnOk result (V.faults volume.new ≡ V.faults volume.old) }
     ensures kept { IsSameSource S.file S.absent S.taken S.faults source.old source.new }
-    ensures beside { IsSameBeside PICTURE V.reads V.put V.faults volume.old volume.new }
+    ensures beside { IsSameBeside (Only PICTURE) V.tells V.reads V.put V.faults V.history volume.old volume.new }
 {
     let project = &plan.project;
     let mut held = 0;
@@ -100,6 +101,9 @@ pub fn make_alone<S: Source, V: Volume>(
         (V.reads volume.new (Picture 1)) (S.taken source.old) (S.taken source.new)) }
     ensures put { V.tells
         → OnOk result (V.put volume.new (Picture 1) ≡ counted (V.put volume.old (Picture 1)) (length (V.reads volume.new (Picture 1)))) }
+    // A crash leaves this picture file, and nothing else of it.
+    ensures at_rest { V.tells
+        → OnOk result ((V.history volume.new).newest (Picture 1) ≡ at_rest (V.reads volume.new (Picture 1))) }
     // Each frame that the engine encoded is read back to its quantised coefficients down to the bit-planes that its cut
     // keeps, within the limits; and whatever the source tells, each frame's codestream is within them.
     ensures encoded { S.tells → OnOk result (AreEncodedFrames (S.file source.old) plan.now.project) }
@@ -111,12 +115,12 @@ pub fn make_alone<S: Source, V: Volume>(
 
     // Why nothing was made, by the ending. What isn't built yet ends so.
     ensures ended { IfErr result (IsMakeCause S.tells (S.file source.old) plan.now.project
-        S.absent S.faults source.old source.new V.reads V.put V.faults volume.old volume.new) }
+        S.absent S.faults source.old source.new V.tells V.reads V.put V.faults V.history volume.old volume.new) }
     ensures not_built { IsFalse (is_built plan.now.project) → result ≡ Err MakeEnd.Unbuilt }
 
     // What stays in any case.
     ensures kept { IsSameSource S.file S.absent S.taken S.faults source.old source.new }
-    ensures beside { IsSameBeside (Picture 1) V.reads V.put V.faults volume.old volume.new }
+    ensures beside { IsSameBeside (Only (Picture 1)) V.tells V.reads V.put V.faults V.history volume.old volume.new }
 
     // Where there is a package and no device fails, nothing but want of memory keeps it from being made.
     ensures complete { S.tells → IsTrue (is_built plan.now.project)

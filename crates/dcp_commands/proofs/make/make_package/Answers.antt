@@ -30,10 +30,10 @@ returns-in_err-report-clause-ended g c =
     let kept = c.in_ok-plan.ensures.kept in
     let p = err_from_is_err_and c.from_residual-in_err-report.result c.from_residual-in_err-report.ensures.1 in
     let why = cause_of c.make_alone.result end
-    (IsMakeCause source.tells (source.file between) project source.absent source.faults between now volume.reads volume.put volume.faults c.args.volume.now last)
+    (IsMakeCause source.tells (source.file between) project source.absent source.faults between now volume.tells volume.reads volume.put volume.faults volume.history c.args.volume.now last)
     c.in_err-report.was c.make_alone.ensures.ended in
     ended_by c.from_residual-in_err-report.result p.0 (stop.Make end)
-    (IsStop source.tells files words source.absent source.faults first now volume.reads volume.put volume.faults c.args.volume.now last) p.1 p.2
+    (IsStop source.tells files words source.absent source.faults first now volume.tells volume.reads volume.put volume.faults volume.history c.args.volume.now last) p.1 p.2
     (record {
       asked = asked;
       project = project;
@@ -41,7 +41,7 @@ returns-in_err-report-clause-ended g c =
       rules = c.in_ok-plan.plan.rules;
       told = λ tells. ap (planned files) (sym c.as_bytes.ensures.value) ∙ c.in_ok-plan.ensures.planned tells;
       off = λ off. cc (c.in_err-report.was, c.make_alone.ensures.not_built off);
-      cause = make_cause source.tells files project source.absent source.faults first between now volume.reads volume.put volume.faults c.args.volume.now last end
+      cause = make_cause source.tells files project source.absent source.faults first between now volume.tells volume.reads volume.put volume.faults volume.history c.args.volume.now last end
           kept.absent_kept kept.faults_kept (rw kept.same_files at why);
       left = left_by source.tells files (source.file between) project source.faults first between now volume.faults c.args.volume.now last
           c.make_alone.result end kept.same_files kept.faults_kept c.in_err-report.was c.make_alone.ensures.complete;

@@ -12,7 +12,7 @@ returns-clause-cause g c =
     let sink = g.O.Sink in
     let made = c.make_package-outcome in
     outcome_cause source.tells (source.file c.args.source.now) (map string_bytes c.args.words.now) source.absent source.faults c.args.source.now made.new.source
-    volume.reads volume.put volume.faults c.args.volume.now made.new.volume sink.faults c.args.out.now c.print.new.out
+    volume.tells volume.reads volume.put volume.faults volume.history c.args.volume.now made.new.volume sink.faults c.args.out.now c.print.new.out
     c.print.result made.result c.print.ensures.answer made.ensures.source_untroubled made.ensures.volume_untroubled made.ensures.ended
     c.print.ensures.sink_fault c.print.ensures.untroubled
 
@@ -23,7 +23,7 @@ returns-clause-told g c = λ status tells wants.
     let sink = g.O.Sink in
     let made = c.make_package-outcome in
     outcome_told source.tells (source.file c.args.source.now) (map string_bytes c.args.words.now) source.absent source.faults c.args.source.now made.new.source
-    volume.reads volume.put volume.faults c.args.volume.now made.new.volume sink.faults c.args.out.now c.print.new.out
+    volume.tells volume.reads volume.put volume.faults volume.history c.args.volume.now made.new.volume sink.faults c.args.out.now c.print.new.out
     volume.tells (volume.reads made.new.volume (Picture 1)) (source.taken c.args.source.now) (source.taken made.new.source)
     c.print.result status made.result tells wants c.print.ensures.answer (made.ensures.package tells) made.ensures.ended
 
@@ -34,7 +34,7 @@ returns-clause-complete g c = λ tells some calm still quiet.
     let sink = g.O.Sink in
     let made = c.make_package-outcome in
     outcome_left source.tells (source.file c.args.source.now) (map string_bytes c.args.words.now) source.absent source.faults c.args.source.now made.new.source
-    volume.reads volume.put volume.faults c.args.volume.now made.new.volume sink.faults c.args.out.now c.print.new.out
+    volume.tells volume.reads volume.put volume.faults volume.history c.args.volume.now made.new.volume sink.faults c.args.out.now c.print.new.out
     c.print.result made.result tells some calm still quiet c.print.ensures.answer c.print.ensures.sink_fault made.ensures.ended
 
 pub returns-clause-printed : goal.returns-clause-printed

@@ -2,6 +2,7 @@ use Rattle.std.proofs.Common.{◌≡◌, ℕ, ◌∙◌, [], refl, ap, subst, ar
 use Rattle.std.proofs.lemmas.List.{length-append, length-take-le}
 use Rattle.std.proofs.lemmas.List.Elements.{All-nil}
 use Rattle.frame_values.specs.Causes.{IsFrameValue}
+use Rattle.mast_world.specs.Changes.{Only}
 use Rattle.mast_world.proofs.Kept.{beside_kept, beside_kept_on, source_kept, source_kept_on}
 use Rattle.make_engine.specs.Engine.{HasCopied, HasFrameItems, TakesItem}
 use Rattle.make_engine.proofs.Frames.{HasCopied_more, HasFrameItems_more, counted_next, held_next, nothing_copied}
@@ -21,7 +22,7 @@ loop-frame-init g c = record {
   source_untroubled = refl;
   volume_untroubled = refl;
   kept = source_kept g.S.Source.file g.S.Source.absent g.S.Source.taken g.S.Source.faults c.args.source.now;
-  beside = beside_kept PICTURE g.V.Volume.reads g.V.Volume.put g.V.Volume.faults c.args.volume.now;
+  beside = beside_kept (Only PICTURE) g.V.Volume.tells g.V.Volume.reads g.V.Volume.put g.V.Volume.faults g.V.Volume.history c.args.volume.now;
 }
 
 pub take_item-requires-clause-held : goal.take_item-requires-clause-held
@@ -60,7 +61,7 @@ loop-frame-preserved g c =
       source_untroubled = step.untroubled ∙ before.source_untroubled;
       volume_untroubled = end.faults ∙ before.volume_untroubled;
       kept = source_kept_on g.S.Source.file g.S.Source.absent g.S.Source.taken g.S.Source.faults c.args.source.now c.loop-frame.source c.take_item.new.source before.kept step.kept;
-      beside = beside_kept_on PICTURE g.V.Volume.reads g.V.Volume.put g.V.Volume.faults c.args.volume.now c.loop-frame.volume c.append.new.volume before.beside end.beside;
+      beside = beside_kept_on (Only PICTURE) g.V.Volume.tells g.V.Volume.reads g.V.Volume.put g.V.Volume.faults g.V.Volume.history c.args.volume.now c.loop-frame.volume c.append.new.volume before.beside end.beside;
     }
 
 pub returns-clause-copied : goal.returns-clause-copied
@@ -76,3 +77,8 @@ returns-clause-values g c = λ tells.
     let e : c.loop-frame.frame ≡ c.args.plan.now.project.frames = omega (arith, all) in
     subst (λ (f : ℕ). HasFrameItems c.args.plan.now.project f (g.V.Volume.reads c.loop-frame.volume PICTURE)) e
     (c.loop-frame.invariant.values tells)
+
+pub returns-in_err-append-clause-beside : goal.returns-in_err-append-clause-beside
+returns-in_err-append-clause-beside g c =
+    beside_kept_on (Only PICTURE) g.V.Volume.tells g.V.Volume.reads g.V.Volume.put g.V.Volume.faults g.V.Volume.history c.args.volume.now c.loop-frame.volume
+    c.append.new.volume c.loop-frame.invariant.beside c.append.ensures.beside

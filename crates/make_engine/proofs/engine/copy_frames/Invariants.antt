@@ -1,5 +1,5 @@
 use Rattle.std.proofs.Common.{◌≡◌, ◌≤◌, ◌<◌, ◌*◌, ◌-◌, length, take}
-use Rattle.mast_world.specs.Changes.{IsSameBeside, IsSameSource}
+use Rattle.mast_world.specs.Changes.{IsSameBeside, IsSameSource, Only}
 use Rattle.mast_world.specs.Count.{counted}
 use Rattle.make_engine.specs.Engine.{HasCopied, HasFrameItems, IsFrameItem, IsItemAt}
 use Rattle.make_engine.specs.declared.engine.TheConstants.{PICTURE}
@@ -24,5 +24,5 @@ invariant-loop-frame g l =
       source_untroubled : source.faults l.source ≡ source.faults l.fn.source;
       volume_untroubled : volume.faults l.volume ≡ volume.faults l.fn.volume;
       kept : IsSameSource source.file source.absent source.taken source.faults l.fn.source l.source;
-      beside : IsSameBeside PICTURE volume.reads volume.put volume.faults l.fn.volume l.volume;
+      beside : IsSameBeside (Only PICTURE) volume.tells volume.reads volume.put volume.faults volume.history l.fn.volume l.volume;
     }

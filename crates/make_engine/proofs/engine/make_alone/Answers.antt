@@ -1,5 +1,7 @@
 use Rattle.std.proofs.Common.{ap, ◌∙◌, arith}
 use Rattle.std.proofs.lemmas.Result.{err_from_is_err_and}
+use Rattle.mast_world.specs.Changes.{Only}
+use Rattle.mast_world.proofs.Kept.{beside_kept_on}
 use Rattle.make_engine.specs.Causes.{IsCopyCause, IsOutOfMemory}
 use Rattle.make_engine.specs.declared.engine.TheConstants.{PICTURE}
 use Rattle.make_engine.proofs.Encoded.{encoded_frames}
@@ -36,15 +38,8 @@ returns-clause-volume_untroubled g c = c.in_ok-sync.ensures.faults ∙ c.in_ok-c
 pub returns-clause-beside : goal.returns-clause-beside
 returns-clause-beside g c =
     let volume = g.V.Volume in
-    let copied = c.copy_frames.ensures.beside in
-    let before = c.in_ok-cut.ensures.faults in
-    let behind = c.in_ok-sync.ensures.faults in
-    record {
-      same_reads = λ file other.
-          ap (λ reads. reads file) c.sync.ensures.same_reads ∙ copied.same_reads file other ∙ c.cut.ensures.other_reads file other;
-      same_put = λ file other. ap (λ put. put file) c.sync.ensures.same_put ∙ copied.same_put file other ∙ ap (λ put. put file) c.cut.ensures.same_put;
-      faults_kept = omega (arith, before, behind, copied.faults_kept);
-    }
+    let on = beside_kept_on (Only PICTURE) volume.tells volume.reads volume.put volume.faults volume.history c.args.volume.now in
+    on c.copy_frames.new.volume c.sync.new.self (on c.cut.new.self c.copy_frames.new.volume c.cut.ensures.beside c.copy_frames.ensures.beside) c.sync.ensures.beside
 
 pub returns-clause-encoded : goal.returns-clause-encoded
 returns-clause-encoded g c = λ tells.
@@ -56,22 +51,12 @@ returns-clause-encoded g c = λ tells.
 
 pub returns-in_err-copy_frames-clause-beside : goal.returns-in_err-copy_frames-clause-beside
 returns-in_err-copy_frames-clause-beside g c =
-    let copied = c.copy_frames.ensures.beside in
-    let before = c.in_ok-cut.ensures.faults in
-    record {
-      same_reads = λ file other. copied.same_reads file other ∙ c.cut.ensures.other_reads file other;
-      same_put = λ file other. copied.same_put file other ∙ ap (λ put. put file) c.cut.ensures.same_put;
-      faults_kept = omega (arith, before, copied.faults_kept);
-    }
+    let volume = g.V.Volume in
+    beside_kept_on (Only PICTURE) volume.tells volume.reads volume.put volume.faults volume.history c.args.volume.now c.cut.new.self c.copy_frames.new.volume
+    c.cut.ensures.beside c.copy_frames.ensures.beside
 
 pub returns-in_err-sync-clause-beside : goal.returns-in_err-sync-clause-beside
 returns-in_err-sync-clause-beside g c =
-    let copied = c.copy_frames.ensures.beside in
-    let before = c.in_ok-cut.ensures.faults in
-    let behind = c.in_err-sync.ensures.faults in
-    record {
-      same_reads = λ file other.
-          ap (λ reads. reads file) c.sync.ensures.same_reads ∙ copied.same_reads file other ∙ c.cut.ensures.other_reads file other;
-      same_put = λ file other. ap (λ put. put file) c.sync.ensures.same_put ∙ copied.same_put file other ∙ ap (λ put. put file) c.cut.ensures.same_put;
-      faults_kept = omega (arith, before, behind, copied.faults_kept);
-    }
+    let volume = g.V.Volume in
+    let on = beside_kept_on (Only PICTURE) volume.tells volume.reads volume.put volume.faults volume.history c.args.volume.now in
+    on c.copy_frames.new.volume c.sync.new.self (on c.cut.new.self c.copy_frames.new.volume c.cut.ensures.beside c.copy_frames.ensures.beside) c.sync.ensures.beside
