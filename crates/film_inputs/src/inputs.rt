@@ -4,6 +4,7 @@ ghost use Rattle.film_project.specs.Facts.{asset_at};
 ghost use Rattle.film_reader.specs.declared.read.TheConstants.{GREATEST_TEXT};
 ghost use Rattle.mast_world.specs.Changes.{IsSameSource};
 ghost use Rattle.mast_world.specs.Count.{counted, counted_on_ok};
+ghost use Rattle.pcm_mix.specs.Mix.{AreSoundsThere};
 ghost use Rattle.film_inputs.specs.Causes.{IsGoneAt, IsGoneInput, IsInputCause, IsPlanCause, IsTextCause};
 ghost use Rattle.film_inputs.specs.Inputs.{is_named, is_single, is_wanted, missing_input, planned, size_at, sizes_of, missing_at};
 
@@ -178,6 +179,7 @@ pub fn read_plan<S: Source>(alloc: Global, source: &mut S, name: &[u8]) -> Resul
     ensures planned { S.tells → IfOk result (λ plan. planned (S.file source.old) name.now ≡ Ok plan.project) }
     ensures taken { S.tells → OnOk result (IsSomeAnd (S.file source.old name.now)
         (λ text. S.taken source.new ≡ counted (S.taken source.old) (length text))) }
+    ensures sounds { S.tells → IfOk result (λ plan. AreSoundsThere (S.file source.old) plan.project) }
 
     // Why there is none, by the ending. A file that is too long isn't read.
     ensures ended { IfErr result (IsPlanCause S.tells (S.file source.old) name.now S.absent S.faults source.old source.new) }

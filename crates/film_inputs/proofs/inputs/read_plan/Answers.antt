@@ -3,10 +3,12 @@ use Rattle.std.proofs.lemmas.Result.{err_from_is_err_and}
 use Rattle.film_plan.specs.Needs.{first_short}
 use Rattle.film_project.specs.Accepts.{accepts}
 use Rattle.film_project.specs.Rules.{IsProject}
+use Rattle.pcm_mix.specs.Mix.{AreSoundsThere}
 use Rattle.film_inputs.specs.Causes.{IsGoneInput, IsInputCause, IsPlanCause}
 use Rattle.film_inputs.specs.Inputs.{missing_input, sizes_of}
 use Rattle.film_inputs.specs.declared.ends.PlanEnd.TheVariants.{Input, Plan}
 use Rattle.film_inputs.proofs.Planning.{cause_of, ended_by, of_input, of_short}
+use Rattle.film_inputs.proofs.Sounds.{sounds_there}
 use Rattle.film_inputs.proofs.inputs.read_plan.Goals as goal
 
 pub returns-in_err-sizes-clause-ended : goal.returns-in_err-sizes-clause-ended
@@ -49,3 +51,15 @@ returns-in_err-plan-clause-ended g c =
           c.as_slice-2.ensures.value ∙ c.in_ok-sizes.ensures.sizes tells ∙ ap (λ files. sizes_of files project) kept in
           ap (first_short project) (sym sizes) ∙ c.plan.ensures.short asset size need was,
     )))
+
+pub returns-clause-sounds : goal.returns-clause-sounds
+returns-clause-sounds g c = λ tells.
+    let files = g.S.Source.file c.args.source.now in
+    let project = c.in_ok-project.project in
+    let kept = c.read_text.ensures.kept.same_files in
+    let sizes : c.as_slice-2.result.now ≡ sizes_of files project =
+    c.as_slice-2.ensures.value ∙ c.in_ok-sizes.ensures.sizes tells ∙ ap (λ files. sizes_of files project) kept in
+    subst (λ project. AreSoundsThere files project) (sym c.in_ok-plan.ensures.planned)
+    (sounds_there files project (subst (λ p. IsProject p) c.project.view_is c.project.invariant)
+    (subst (λ files. missing_input files project ≡ None) kept (c.in_ok-sizes.ensures.there tells))
+    (ap (first_short project) (sym sizes) ∙ c.in_ok-plan.ensures.enough))
