@@ -1,4 +1,6 @@
-use Rattle.std.proofs.Common.{map, string_bytes}
+use Rattle.std.proofs.Common.{◌≡◌, map, rules, string_bytes, subst}
+use Rattle.disk_terms.specs.Disk.{MayLeave, at_rest}
+use Rattle.disk_terms.proofs.Rest.{at_rest-only}
 use Rattle.mast_world.specs.declared.volume.FileId.TheVariants.{Picture}
 use Rattle.dcp_commands.specs.Make.{IsMadeText}
 use Rattle.dcp_commands.proofs.Making.{outcome_cause, outcome_left, outcome_told}
@@ -41,3 +43,10 @@ pub returns-clause-printed : goal.returns-clause-printed
 returns-clause-printed g c = λ tells.
     let made = c.make_package-outcome in
     printed_of (IsMadeText g.S.Source.tells (g.S.Source.file c.args.source.now) (map string_bytes c.args.words.now)) made.result c.print.result (g.O.Sink.written c.args.out.now) (g.O.Sink.written c.print.new.out) made.ensures.text (c.print.ensures.printed tells)
+
+pub returns-clause-on_disk : goal.returns-clause-on_disk
+returns-clause-on_disk g c = λ tells done image left.
+    let volume = g.V.Volume in
+    let now = c.make_package-outcome.new.volume in
+    let rests : (volume.history now).newest (Picture 1) ≡ at_rest (volume.reads now (Picture 1)) = search rules in
+    at_rest-only (volume.reads now (Picture 1)) (image (Picture 1)) (subst (λ trail. MayLeave trail (image (Picture 1))) rests (left (Picture 1)))
