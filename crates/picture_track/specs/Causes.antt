@@ -1,5 +1,5 @@
 -- Why there is no picture file, or no frame, ending by ending.
-use Rattle.std.specs.Prelude.{◌≡◌, ℕ, List, take, slice_get, Some, Err, IsOk, ⊤}
+use Rattle.std.specs.Prelude.{◌≡◌, ◌⊎◌, ℕ, List, take, slice_get, Some, Err, IsOk, ⊤}
 use Rattle.film_project.specs.Facts.{ProjectFacts}
 use Rattle.film_timeline.specs.Timeline.{cells_of, IsFresh}
 use Rattle.film_timeline.specs.declared.cell.Cell.{Cell}
@@ -11,6 +11,10 @@ use Rattle.mast_world.specs.Content.{Files}
 use Rattle.mast_world.specs.Count.{HasRisen}
 use Rattle.picture_track.specs.declared.outcome.FrameEnd.{FrameEnd}
 use Rattle.picture_track.specs.declared.outcome.FrameEnd.TheVariants.{Missing, Bad, SourceFault, NoMemory}
+use Rattle.picture_track.specs.declared.outcome.PictureEnd.{PictureEnd}
+use Rattle.picture_track.specs.declared.outcome.PictureEnd.TheVariants.{Frame, Track}
+use Rattle.track_file.specs.Causes.{IsCause}
+use Rattle.track_file.specs.declared.end.TrackEnd.TheVariants as of_track
 
 -- frame f is fresh and shows this cell; all frames in front of it can be shown
 pub record IsReached (tells : Type 0) (files : Files) (project : ProjectFacts) (f : ℕ) (cell : Cell) : Type 0 where
@@ -53,3 +57,12 @@ module _ {A : Type 0} (tells : Type 0) (files : Files) where
       (frame ≡ f) × IsFault project why × (tells → cell_shown files project cell ≡ Err (of_cell.Bad why))
   IsSingleCause project f cell absent faults before now SourceFault = HasRisen (faults before) (faults now)
   IsSingleCause project f cell absent faults before now NoMemory = ⊤
+
+  -- of writing the picture file
+  abbrev pub IsPictureCause : {B : Type 0} → ProjectFacts → (A → ℕ) → (A → ℕ) → A → A → (B → ℕ) → B → B → PictureEnd → Type 0
+  IsPictureCause project absent faults before now store_faults volume volume_now (Frame end) = IsFrameCause project absent faults before now end
+  IsPictureCause project absent faults before now store_faults volume volume_now (Track end) = IsCause store_faults volume volume_now end
+
+-- ends for want of memory
+abbrev pub IsOutOfMemory : PictureEnd → Type 0
+IsOutOfMemory end = (end ≡ Track of_track.NoMemory) ⊎ (end ≡ Frame NoMemory)

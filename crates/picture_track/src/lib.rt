@@ -3,7 +3,9 @@
 
 mod frame;
 mod outcome;
+mod picture;
 mod single;
 
-pub use outcome::FrameEnd;
+pub use outcome::{FrameEnd, PictureEnd};
+pub use picture::write_picture;
 pub use single::make_frame;

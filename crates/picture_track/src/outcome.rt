@@ -1,6 +1,7 @@
 use frame_values::{BadWhy, CellEnd};
 use mast_base::{Bytes, NoMemory};
 use std::alloc::AllocError;
+use track_file::TrackEnd;
 
 /// Why a frame has no value.
 #[derive(Debug, Drop)]
@@ -10,6 +11,14 @@ pub enum FrameEnd {
     Bad { frame: u32, why: BadWhy },
     SourceFault,
     NoMemory,
+}
+
+/// Why there is no picture file.
+#[derive(Debug, Drop)]
+pub enum PictureEnd {
+    Frame(FrameEnd),
+    /// The file wasn't written on, or there was no memory for what all frames share.
+    Track(TrackEnd),
 }
 
 impl FrameEnd {
@@ -48,5 +57,39 @@ impl From<AllocError> for FrameEnd {
 
     fn from(_error: AllocError) -> Self {
         FrameEnd::NoMemory
+    }
+}
+
+impl From<FrameEnd> for PictureEnd {
+    ghost use Rattle.std.specs.Prelude.{◌≡◌};
+    ghost use Rattle.picture_track.specs.declared.outcome.PictureEnd.TheVariants.{Frame};
+
+    ghost from_gives = { λ end made. made ≡ Frame end };
+
+    fn from(end: FrameEnd) -> Self {
+        PictureEnd::Frame(end)
+    }
+}
+
+impl From<TrackEnd> for PictureEnd {
+    ghost use Rattle.std.specs.Prelude.{◌≡◌};
+    ghost use Rattle.picture_track.specs.declared.outcome.PictureEnd.TheVariants.{Track};
+
+    ghost from_gives = { λ end made. made ≡ Track end };
+
+    fn from(end: TrackEnd) -> Self {
+        PictureEnd::Track(end)
+    }
+}
+
+impl From<AllocError> for PictureEnd {
+    ghost use Rattle.std.specs.Prelude.{◌≡◌};
+    ghost use Rattle.picture_track.specs.declared.outcome.PictureEnd.TheVariants.{Track};
+    ghost use Rattle.track_file.specs.declared.end.TrackEnd.TheVariants.{NoMemory};
+
+    ghost from_gives = { λ _ made. made ≡ Track NoMemory };
+
+    fn from(_error: AllocError) -> Self {
+        PictureEnd::Track(TrackEnd::NoMemory)
     }
 }

@@ -1,4 +1,4 @@
-use Rattle.std.proofs.Common.{◌≡◌, ◌∙◌, ◌≤◌, ap, arith, get_or, length, subst, sym, take}
+use Rattle.std.proofs.Common.{◌∙◌, ◌≤◌, arith, get_or, length, subst, sym, take}
 use Rattle.film_timeline.specs.declared.cell.Cell.TheVariants.{Black}
 use Rattle.frame_values.specs.Causes.{IsFrameValue}
 use Rattle.mast_world.specs.Content.{part}
