@@ -36,7 +36,9 @@ all_cells : (project : ProjectFacts) → take project.frames (cells_of project) 
 all_cells project = (let length_is = length-cells_of project in take_all project.frames (cells_of project) (omega arith))
 
 -- all frames were shown
-pub all_shown : (tells : Type 0) (files : Files) (project : ProjectFacts) (track : PlainTrack) (picture : List ℕ) (before now : ℕ) → (copied : HasCopied tells files project project.frames track picture before now) → cells_shown files project (cells_of project) ≡ Ok copied.frames
+pub all_shown : (tells : Type 0) (files : Files) (project : ProjectFacts) (track : PlainTrack) (picture : List ℕ) (before now : ℕ)
+    → (copied : HasCopied tells files project project.frames track picture before now)
+    → cells_shown files project (cells_of project) ≡ Ok copied.frames
 all_shown tells files project track picture before now copied = ap (cells_shown files project) (sym (all_cells project)) ∙ copied.shown
 
 -- the end of a track that has these items is written, which makes it whole
@@ -44,11 +46,15 @@ abbrev pub Finishes : PlainTrack → List ℕ → List ℕ → Type 0
 Finishes written picture whole = (values : List (List ℕ)) → HasItems written values picture → whole ≡ track written.facts values
 
 -- the same of the file's bytes by its name
-pub Finishes-of : (written : PlainTrack) (old new : FileId → List ℕ) (file : FileId) → written.file ≡ file → Finishes written (old written.file) (new written.file) → Finishes written (old file) (new file)
+pub Finishes-of : (written : PlainTrack) (old new : FileId → List ℕ) (file : FileId) → written.file ≡ file
+    → Finishes written (old written.file) (new written.file) → Finishes written (old file) (new file)
 Finishes-of written old new file is finishes = subst (λ file. Finishes written (old file) (new file)) is finishes
 
 -- once all frames are copied and the track is finished, the file is the project's
-pub picture_made : (tells : Type 0) (files : Files) (project : ProjectFacts) (asset : List ℕ) (written : PlainTrack) (picture whole : List ℕ) (before taken : ℕ) → written.facts ≡ picture_facts project asset → (tells → Finishes written picture whole) → HasCopied tells files project project.frames written picture before taken → IsPicture tells files project asset whole before taken
+pub picture_made : (tells : Type 0) (files : Files) (project : ProjectFacts) (asset : List ℕ) (written : PlainTrack) (picture whole : List ℕ)
+    (before taken : ℕ)
+    → written.facts ≡ picture_facts project asset → (tells → Finishes written picture whole)
+    → HasCopied tells files project project.frames written picture before taken → IsPicture tells files project asset whole before taken
 picture_made tells files project asset written picture whole before taken facts finishes copied = record {
   made = track (picture_facts project asset) (values_of copied.frames);
   size = all_taken copied.fresh;
@@ -60,7 +66,9 @@ picture_made tells files project asset written picture whole before taken facts 
   taken = copied.taken;
 }
 
-pub values_made : (project : ProjectFacts) (asset : List ℕ) (written : PlainTrack) (picture whole : List ℕ) (before now : ℕ) → written.facts ≡ picture_facts project asset → Finishes written picture whole → HasFrameItems project project.frames written picture before now → HasFrameValues project asset whole
+pub values_made : (project : ProjectFacts) (asset : List ℕ) (written : PlainTrack) (picture whole : List ℕ) (before now : ℕ)
+    → written.facts ≡ picture_facts project asset → Finishes written picture whole
+    → HasFrameItems project project.frames written picture before now → HasFrameValues project asset whole
 values_made project asset written picture whole before now facts finishes items = record {
   values = items.values;
   count = items.count;
@@ -72,7 +80,8 @@ length-places_from : (at : ℕ) (values : List (List ℕ)) → length (places_fr
 length-places_from at [] = refl
 length-places_from at (value ∷ values) = ap suc (length-places_from (at + 20 + length value) values)
 
-length-track : (facts : PlainFacts) (values : List (List ℕ)) → length facts.asset ≡ 16 → length (track facts values) ≡ 16508 + length (body facts.kind values) + tail_size (length values)
+length-track : (facts : PlainFacts) (values : List (List ℕ)) → length facts.asset ≡ 16
+    → length (track facts values) ≡ 16508 + length (body facts.kind values) + tail_size (length values)
 length-track facts values sixteen =
     let footer = footer_of facts.kind values in
     let places = places_from 16508 values in
@@ -87,7 +96,10 @@ length-track facts values sixteen =
     )
 
 -- the head was put, the items, the tail and the head once more
-pub all_put : (project : ProjectFacts) (written : PlainTrack) (picture whole : List ℕ) (first begun copied now : ℕ) → length written.facts.asset ≡ 16 → written.facts.frames ≡ project.frames → Finishes written picture whole → begun ≡ counted first 16508 → HasFrameItems project project.frames written picture begun copied → now ≡ counted copied (tail_size written.facts.frames + 16508) → now ≡ counted first (picture_put whole)
+pub all_put : (project : ProjectFacts) (written : PlainTrack) (picture whole : List ℕ) (first begun copied now : ℕ)
+    → length written.facts.asset ≡ 16 → written.facts.frames ≡ project.frames → Finishes written picture whole
+    → begun ≡ counted first 16508 → HasFrameItems project project.frames written picture begun copied
+    → now ≡ counted copied (tail_size written.facts.frames + 16508) → now ≡ counted first (picture_put whole)
 all_put project written picture whole first begun copied now sixteen frames finishes head items end =
     let size = length (body written.facts.kind items.values) in
     let long : length whole ≡ 16508 + size + tail_size project.frames =
@@ -103,7 +115,9 @@ all_put project written picture whole first begun copied now sixteen frames fini
 -- ---- outcomes
 
 -- where all cells are shown, each is
-pub each_shown : (files : Files) (project : ProjectFacts) (cells : List Cell) (frames : List Shown) → cells_shown files project cells ≡ Ok frames → (f : ℕ) (cell : Cell) → slice_get cells f ≡ Some cell → (shown : Shown) × (cell_shown files project cell ≡ Ok shown)
+pub each_shown : (files : Files) (project : ProjectFacts) (cells : List Cell) (frames : List Shown)
+    → cells_shown files project cells ≡ Ok frames → (f : ℕ) (cell : Cell) → slice_get cells f ≡ Some cell
+    → (shown : Shown) × (cell_shown files project cell ≡ Ok shown)
 unfolding cells_shown
 each_shown files project [] frames all f cell at = absurd (cc)
 each_shown files project (x ∷ cells) frames all zero cell at =
@@ -114,12 +128,14 @@ each_shown files project (x ∷ cells) frames all (suc f) cell at =
     let parts = joined (cell_shown files project x) (cells_shown files project cells) frames all in
     each_shown files project cells parts.1 parts.3 f cell at
 
-shown_by : {A : Type 0} (shown : Result (List Shown) CellEnd) (of : List Shown → A) → IsOk {T = A} {E = CellEnd} (on_ok shown (λ frames. Ok (of frames))) → (frames : List Shown) × (shown ≡ Ok frames)
+shown_by : {A : Type 0} (shown : Result (List Shown) CellEnd) (of : List Shown → A)
+    → IsOk {T = A} {E = CellEnd} (on_ok shown (λ frames. Ok (of frames))) → (frames : List Shown) × (shown ≡ Ok frames)
 shown_by (Ok frames) of is = (frames, refl)
 shown_by (Err end) of is = absurd (cc)
 
 -- a cell that shows nothing leaves no picture file
-none_ends : (files : Files) (project : ProjectFacts) (asset : List ℕ) (f : ℕ) (cell : Cell) (end : CellEnd) → IsOk (picture_of files project asset) → slice_get (cells_of project) f ≡ Some cell → cell_shown files project cell ≡ Err end → ⊥
+none_ends : (files : Files) (project : ProjectFacts) (asset : List ℕ) (f : ℕ) (cell : Cell) (end : CellEnd)
+    → IsOk (picture_of files project asset) → slice_get (cells_of project) f ≡ Some cell → cell_shown files project cell ≡ Err end → ⊥
 none_ends files project asset f cell end there at is =
     let all = shown_by (cells_shown files project (cells_of project)) (λ frames. track (picture_facts project asset) (values_of frames)) there in
     let one = each_shown files project (cells_of project) all.0 all.1 f cell at in
@@ -145,8 +161,10 @@ pub picture_left :
     IsPictureCause tells files project absent faults before now store_faults volume volume_now end → IsOutOfMemory end
 picture_left told files project asset absent faults before now store_faults volume volume_now (Frame end) there calm still is =
     inr (ap Frame (frame_left told files project asset absent faults before now end there calm is))
-picture_left told files project asset absent faults before now store_faults volume volume_now (Track of_track.StoreFault) there calm still is = absurd (still is)
-picture_left told files project asset absent faults before now store_faults volume volume_now (Track of_track.NoMemory) there calm still is = inl refl
+picture_left told files project asset absent faults before now store_faults volume volume_now (Track of_track.StoreFault) there calm still is =
+    absurd (still is)
+picture_left told files project asset absent faults before now store_faults volume volume_now (Track of_track.NoMemory) there calm still is =
+    inl refl
 
 -- what is known of the error that a call hands up, and of the error itself
 pub ended_by : {T E : Type 0} (r : Result T E) (made end : E) (P : E → Type 0) → r ≡ Err made → made ≡ end → P end → IfErr r P

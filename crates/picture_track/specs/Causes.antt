@@ -60,8 +60,10 @@ module _ {A : Type 0} (tells : Type 0) (files : Files) where
 
   -- of writing the picture file
   abbrev pub IsPictureCause : {B : Type 0} → ProjectFacts → (A → ℕ) → (A → ℕ) → A → A → (B → ℕ) → B → B → PictureEnd → Type 0
-  IsPictureCause project absent faults before now store_faults volume volume_now (Frame end) = IsFrameCause project absent faults before now end
-  IsPictureCause project absent faults before now store_faults volume volume_now (Track end) = IsCause store_faults volume volume_now end
+  IsPictureCause project absent faults before now store_faults volume volume_now (Frame end) =
+      IsFrameCause project absent faults before now end
+  IsPictureCause project absent faults before now store_faults volume volume_now (Track end) =
+      IsCause store_faults volume volume_now end
 
 -- ends for want of memory
 abbrev pub IsOutOfMemory : PictureEnd → Type 0

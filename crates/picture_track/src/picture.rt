@@ -39,7 +39,8 @@ fn begin_track<V: Volume>(
     asset: &[u8; 16],
     volume: &mut V,
 ) -> Result<TrackFile, TrackEnd>
-    ensures begun { IfOk result (λ track. (track.facts ≡ picture_facts project.now asset.now) × (track.file ≡ PICTURE) × HasValues track []) }
+    ensures begun { IfOk result (λ track. (track.facts ≡ picture_facts project.now asset.now)
+        × (track.file ≡ PICTURE) × HasValues track []) }
     ensures written { V.tells → IfOk result (λ track. HasItems track [] (V.reads volume.new PICTURE)) }
     ensures end { V.tells → IfOk result (λ track. length (V.reads volume.new PICTURE) ≡ track.place) }
     ensures put { OnOk result (V.put volume.new PICTURE ≡ counted (V.put volume.old PICTURE) 16508) }
@@ -104,7 +105,7 @@ fn copy_frames<S: Source, V: Volume>(
 }
 
 /// Writes the picture file of the plan, an MXF track of what its frames show. `asset` is the UUID of the
-/// picture as an asset of its package. All memory that the frames share but for the maker's is taken before
+/// picture as an asset of its package. The room for an item and for the places of all of them is taken before
 /// the volume is touched.
 pub fn write_picture<S: Source, V: Volume>(
     alloc: Global,
