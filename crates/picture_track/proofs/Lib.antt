@@ -1,0 +1,5 @@
+pub mod Copied
+pub mod Encoded
+pub mod Frames
+pub mod Outcomes
+pub mod Singles
