@@ -15,9 +15,6 @@ use Rattle.film_timeline.specs.declared.cell.Cell.{Cell}
 use Rattle.frame_values.specs.Causes.{IsFrameValue}
 use Rattle.frame_values.specs.Shown.{Shown, cell_shown, cells_shown}
 use Rattle.frame_values.specs.declared.ends.CellEnd.{CellEnd}
-use Rattle.disk_terms.specs.Disk.{History}
-use Rattle.mast_world.proofs.Kept.{beside_kept_on}
-use Rattle.mast_world.specs.Changes.{IsSameBeside, Only}
 use Rattle.mast_world.specs.Content.{Files, part}
 use Rattle.mast_world.specs.Count.{counted}
 use Rattle.mast_world.specs.declared.volume.FileId.{FileId}
@@ -33,16 +30,12 @@ use Rattle.track_terms.specs.declared.kind.TrackKind.{TrackKind}
 
 -- ---- what shown cells show
 
-pub joined : (head : Result Shown CellEnd) (tail : Result (List Shown) CellEnd) (frames : List Shown)
-    → on_ok head (λ shown. on_ok tail (λ rest. Ok (shown ∷ rest))) ≡ Ok frames
-    → (first : Shown) × (rest : List Shown) × (head ≡ Ok first) × (tail ≡ Ok rest) × (first ∷ rest ≡ frames)
+pub joined : (head : Result Shown CellEnd) (tail : Result (List Shown) CellEnd) (frames : List Shown) → on_ok head (λ shown. on_ok tail (λ rest. Ok (shown ∷ rest))) ≡ Ok frames → (first : Shown) × (rest : List Shown) × (head ≡ Ok first) × (tail ≡ Ok rest) × (first ∷ rest ≡ frames)
 joined (Ok first) (Ok rest) frames h = (first, rest, refl, refl, cc)
 joined (Ok first) (Err end) frames h = absurd (cc)
 joined (Err end) tail frames h = absurd (cc)
 
-frames_push : (files : Files) (project : ProjectFacts) (cells : List Cell) (frames : List Shown) (cell : Cell) (shown : Shown)
-    → cells_shown files project cells ≡ Ok frames → cell_shown files project cell ≡ Ok shown
-    → cells_shown files project (cells ++ cell ∷ []) ≡ Ok (frames ++ shown ∷ [])
+frames_push : (files : Files) (project : ProjectFacts) (cells : List Cell) (frames : List Shown) (cell : Cell) (shown : Shown) → cells_shown files project cells ≡ Ok frames → cell_shown files project cell ≡ Ok shown → cells_shown files project (cells ++ cell ∷ []) ≡ Ok (frames ++ shown ∷ [])
 unfolding cells_shown
 frames_push files project [] frames cell shown all one = rw one (cc)
 frames_push files project (x ∷ cells) frames cell shown all one =
@@ -56,14 +49,11 @@ take_next cells f cell is =
     take-suc cells f cell below ∙ ap (λ c. take f cells ++ c ∷ []) there
 
 -- what a fresh frame shows is one more
-fresh_push : (files : Files) (project : ProjectFacts) (cells : List Cell) (fresh : List Shown) (cell : Cell) (shown : Shown) (repeats : Bool)
-    → cells_shown files project cells ≡ Ok fresh → cell_shown files project cell ≡ Ok shown
-    → cells_shown files project (cells ++ cond repeats [] (cell ∷ [])) ≡ Ok (fresh ++ cond repeats [] (shown ∷ []))
+fresh_push : (files : Files) (project : ProjectFacts) (cells : List Cell) (fresh : List Shown) (cell : Cell) (shown : Shown) (repeats : Bool) → cells_shown files project cells ≡ Ok fresh → cell_shown files project cell ≡ Ok shown → cells_shown files project (cells ++ cond repeats [] (cell ∷ [])) ≡ Ok (fresh ++ cond repeats [] (shown ∷ []))
 fresh_push files project cells fresh cell shown true all one = rw (append-nil cells, append-nil fresh) all
 fresh_push files project cells fresh cell shown false all one = frames_push files project cells fresh cell shown all one
 
-taken_more : (fresh : List Shown) (shown : Shown) (repeats : Bool)
-    → all_taken (fresh ++ cond repeats [] (shown ∷ [])) ≡ all_taken fresh + cond repeats 0 shown.taken
+taken_more : (fresh : List Shown) (shown : Shown) (repeats : Bool) → all_taken (fresh ++ cond repeats [] (shown ∷ [])) ≡ all_taken fresh + cond repeats 0 shown.taken
 taken_more fresh shown true = ap all_taken (append-nil fresh) ∙ omega arith
 taken_more fresh shown false = sum_by_push (λ (shown : Shown). shown.taken) fresh shown
 
@@ -74,23 +64,12 @@ abbrev pub Grows : PlainTrack → PlainTrack → List ℕ → List ℕ → List 
 Grows before now old new bytes = (values : List (List ℕ)) → HasItems before values old → HasItems now (values ++ bytes ∷ []) new
 
 -- the same of the file's bytes by its name, and of the same bytes
-pub Grows-of : (before now : PlainTrack) (old new : FileId → List ℕ) (file : FileId) (value bytes : List ℕ) → before.file ≡ file
-    → value ≡ bytes → Grows before now (old before.file) (new before.file) value → Grows before now (old file) (new file) bytes
+pub Grows-of : (before now : PlainTrack) (old new : FileId → List ℕ) (file : FileId) (value bytes : List ℕ) → before.file ≡ file → value ≡ bytes → Grows before now (old before.file) (new before.file) value → Grows before now (old file) (new file) bytes
 Grows-of before now old new file value bytes is same grows =
     subst (λ bytes. Grows before now (old file) (new file) bytes) same (subst (λ file. Grows before now (old file) (new file) value) is grows)
 
--- one more call left all but this file as it was
-pub beside_on :
-    {B : Type 0} (tells : Type 0) (reads : B → FileId → List ℕ) (put : B → FileId → ℕ) (faults : B → ℕ) (history : B → History FileId)
-    (first before now : B) (of file : FileId) → of ≡ file → IsSameBeside (Only file) tells reads put faults history first before →
-    IsSameBeside (Only of) tells reads put faults history before now → IsSameBeside (Only file) tells reads put faults history first now
-beside_on tells reads put faults history first before now of file is so_far one =
-    beside_kept_on (Only file) tells reads put faults history first before now so_far
-    (subst (λ file. IsSameBeside (Only file) tells reads put faults history before now) is one)
-
 -- an item in a room keeps its value
-pub value_kept : (kind : TrackKind) (value item rest : List ℕ) (n : ℕ) → item ≡ essence kind value → length value ≡ n
-    → part (item ++ rest) 20 n ≡ value
+pub value_kept : (kind : TrackKind) (value item rest : List ℕ) (n : ℕ) → item ≡ essence kind value → length value ≡ n → part (item ++ rest) 20 n ≡ value
 value_kept kind value item rest n is size =
     let head = key_length (key_of (terms_of kind).item_key) (length value) in
     let twenty : length head ≡ 20 = omega (arith, length-essence kind value, length-append head value) in
@@ -100,18 +79,12 @@ value_kept kind value item rest n is size =
     ∙ take_at value rest n size
 
 -- no frame was copied yet
-pub nothing_copied : (volume_tells : Type 0) (files : Files) (project : ProjectFacts) (track : PlainTrack) (picture : List ℕ) (taken : ℕ)
-    → (volume_tells → HasItems track [] picture) → HasCopied volume_tells files project 0 track picture taken taken
+pub nothing_copied : (volume_tells : Type 0) (files : Files) (project : ProjectFacts) (track : PlainTrack) (picture : List ℕ) (taken : ℕ) → (volume_tells → HasItems track [] picture) → HasCopied volume_tells files project 0 track picture taken taken
 unfolding cells_shown
-nothing_copied volume_tells files project track picture taken begun =
-    record { frames = []; fresh = []; shown = refl; read = refl; written = begun; taken = omega arith }
+nothing_copied volume_tells files project track picture taken begun = record { frames = []; fresh = []; shown = refl; read = refl; written = begun; taken = omega arith }
 
 -- one more frame was copied
-pub HasCopied_more : (volume_tells : Type 0) (files : Files) (project : ProjectFacts) (f : ℕ) (before now : PlainTrack) (old new bytes : List ℕ)
-    (taken_first taken_before taken_now : ℕ)
-    → HasCopied volume_tells files project f before old taken_first taken_before
-    → TakesValue files project f bytes taken_before taken_now → (volume_tells → Grows before now old new bytes)
-    → HasCopied volume_tells files project (f + 1) now new taken_first taken_now
+pub HasCopied_more : (volume_tells : Type 0) (files : Files) (project : ProjectFacts) (f : ℕ) (before now : PlainTrack) (old new bytes : List ℕ) (taken_first taken_before taken_now : ℕ) → HasCopied volume_tells files project f before old taken_first taken_before → TakesValue files project f bytes taken_before taken_now → (volume_tells → Grows before now old new bytes) → HasCopied volume_tells files project (f + 1) now new taken_first taken_now
 HasCopied_more volume_tells files project f before now old new bytes taken_first taken_before taken_now copied one grows = record {
   frames = copied.frames ++ one.shown ∷ [];
   fresh = copied.fresh ++ cond one.repeats [] (one.shown ∷ []);
@@ -131,16 +104,11 @@ HasCopied_more volume_tells files project f before now old new bytes taken_first
 }
 
 -- no item was written yet
-pub no_items : (project : ProjectFacts) (track : PlainTrack) (picture : List ℕ) (put : ℕ) → HasItems track [] picture
-    → HasFrameItems project 0 track picture put put
-no_items project track picture put begun =
-    record { values = []; count = refl; each = All-nil (IsFrameValue project); written = begun; put = omega arith }
+pub no_items : (project : ProjectFacts) (track : PlainTrack) (picture : List ℕ) (put : ℕ) → HasItems track [] picture → HasFrameItems project 0 track picture put put
+no_items project track picture put begun = record { values = []; count = refl; each = All-nil (IsFrameValue project); written = begun; put = omega arith }
 
 -- one more item was written
-pub HasFrameItems_more : (project : ProjectFacts) (f : ℕ) (before now : PlainTrack) (old new bytes : List ℕ) (put_first put_before put_now : ℕ)
-    → HasFrameItems project f before old put_first put_before → IsFrameValue project bytes → now.facts ≡ before.facts
-    → Grows before now old new bytes → put_now ≡ counted put_before (20 + length bytes)
-    → HasFrameItems project (f + 1) now new put_first put_now
+pub HasFrameItems_more : (project : ProjectFacts) (f : ℕ) (before now : PlainTrack) (old new bytes : List ℕ) (put_first put_before put_now : ℕ) → HasFrameItems project f before old put_first put_before → IsFrameValue project bytes → now.facts ≡ before.facts → Grows before now old new bytes → put_now ≡ counted put_before (20 + length bytes) → HasFrameItems project (f + 1) now new put_first put_now
 HasFrameItems_more project f before now old new bytes put_first put_before put_now so_far one same grows put =
     let kind = before.facts.kind in
     let more : length (body now.facts.kind (so_far.values ++ bytes ∷ [])) ≡ length (body kind so_far.values) + (20 + length bytes) =
@@ -160,8 +128,7 @@ HasFrameItems_more project f before now old new bytes put_first put_before put_n
     }
 
 -- the value that was taken is that of the frame before the next one
-pub held_next : (files : Files) (project : ProjectFacts) (f : ℕ) (bytes : List ℕ) (taken_before taken_now : ℕ)
-    → TakesValue files project f bytes taken_before taken_now → IsValueAt files project (f + 1 - 1) bytes
+pub held_next : (files : Files) (project : ProjectFacts) (f : ℕ) (bytes : List ℕ) (taken_before taken_now : ℕ) → TakesValue files project f bytes taken_before taken_now → IsValueAt files project (f + 1 - 1) bytes
 held_next files project f bytes taken_before taken_now one =
     let e : f + 1 - 1 ≡ f = omega arith in
     record { cell = one.cell; shown = one.shown; at = ap (slice_get (cells_of project)) e ∙ one.at; is = one.is; made = one.made }

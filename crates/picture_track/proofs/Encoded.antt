@@ -39,19 +39,15 @@ pixels_whole at size bytes pixels is =
     let rest : size ≤ length (drop at bytes) = rw (length-drop at bytes) (omega arith) in
     ap length (sym parts.1) ∙ length-take-le size (drop at bytes) rest
 
-file_whole : (frame : List ℕ → Result (List ℕ) FrameRefusal) (size : ℕ)
-    → ((bytes pixels : List ℕ) → frame bytes ≡ Ok pixels → length pixels ≡ size) → (file : Option (List ℕ)) (pixels : List ℕ)
-    → of_file frame file ≡ Ok pixels → length pixels ≡ size
+file_whole : (frame : List ℕ → Result (List ℕ) FrameRefusal) (size : ℕ) → ((bytes pixels : List ℕ) → frame bytes ≡ Ok pixels → length pixels ≡ size) → (file : Option (List ℕ)) (pixels : List ℕ) → of_file frame file ≡ Ok pixels → length pixels ≡ size
 file_whole frame size whole None pixels is = absurd (cc)
 file_whole frame size whole (Some bytes) pixels is = whole bytes pixels is
 
-behind_whole : (size : ℕ) (bytes : List ℕ) (end : Result ℕ head.BadHeader) (pixels : List ℕ) → behind_header size bytes end ≡ Ok pixels
-    → length pixels ≡ size
+behind_whole : (size : ℕ) (bytes : List ℕ) (end : Result ℕ head.BadHeader) (pixels : List ℕ) → behind_header size bytes end ≡ Ok pixels → length pixels ≡ size
 behind_whole size bytes (Ok at) pixels is = pixels_whole at size bytes pixels is
 behind_whole size bytes (Err bad) pixels is = absurd (cc)
 
-picture_whole : (kind : AssetKind) (files : Files) (file : List ℕ) (index width height : ℕ) (pixels : List ℕ)
-    → shown_frame kind files file index width height ≡ Ok pixels → length pixels ≡ frame_size width height
+picture_whole : (kind : AssetKind) (files : Files) (file : List ℕ) (index width height : ℕ) (pixels : List ℕ) → shown_frame kind files file index width height ≡ Ok pixels → length pixels ≡ frame_size width height
 picture_whole Rgb48 files file index width height pixels is =
     file_whole (rgb48_frame index (frame_size width height)) (frame_size width height)
     (λ bytes. pixels_whole (index * frame_size width height) (frame_size width height) bytes)
@@ -68,8 +64,7 @@ picture_whole Pcm24 files file index width height pixels is = absurd (cc)
 abbrev EncodesAll : ProjectFacts → Type 0
 EncodesAll project = (raw : List ℕ) → length raw ≡ frame_size project.width project.height → IsEncodingOf project raw (encoded project raw)
 
-of_raw : (project : ProjectFacts) (name : List ℕ) (taken : ℕ) (raw : Result (List ℕ) FrameRefusal) (shown : Shown)
-    → raw_shown project name taken raw ≡ Ok shown → (pixels : List ℕ) × (raw ≡ Ok pixels) × (encoded project pixels ≡ shown.value)
+of_raw : (project : ProjectFacts) (name : List ℕ) (taken : ℕ) (raw : Result (List ℕ) FrameRefusal) (shown : Shown) → raw_shown project name taken raw ≡ Ok shown → (pixels : List ℕ) × (raw ≡ Ok pixels) × (encoded project pixels ≡ shown.value)
 of_raw project name taken (Ok pixels) shown is = (pixels, refl, cc)
 of_raw project name taken (Err why) shown is = absurd (cc)
 
@@ -88,8 +83,7 @@ of_asset Rgb48 files project asset index shown all unready is = of_picture files
 of_asset Ppm files project asset index shown all unready is = of_picture files project Ppm _ asset.file index _ shown all is
 of_asset Pcm24 files project asset index shown all unready is = absurd (cc)
 
-encoded_frame : (files : Files) (project : ProjectFacts) (cell : Cell) (shown : Shown) → EncodesAll project
-    → is_ready project cell ≡ false → cell_shown files project cell ≡ Ok shown → IsEncodedFrame files project cell
+encoded_frame : (files : Files) (project : ProjectFacts) (cell : Cell) (shown : Shown) → EncodesAll project → is_ready project cell ≡ false → cell_shown files project cell ≡ Ok shown → IsEncodedFrame files project cell
 unfolding cell_shown
 encoded_frame files project Black shown all unready is = record {
   raw = black project;

@@ -30,8 +30,7 @@ pub cell_there : (project : ProjectFacts) (cells : List Cell) (f : ℕ) → cell
 cell_there project cells f are below = rw (are, length-cells_of project) below
 
 -- the cell of frame f
-pub cell_is : (project : ProjectFacts) (cells : List Cell) (f : ℕ) → cells ≡ cells_of project → f < length cells
-    → slice_get (cells_of project) f ≡ Some (get_or cells f Black)
+pub cell_is : (project : ProjectFacts) (cells : List Cell) (f : ℕ) → cells ≡ cells_of project → f < length cells → slice_get (cells_of project) f ≡ Some (get_or cells f Black)
 cell_is project cells f are below = sym (ap (λ cells. slice_get cells f) are) ∙ slice_get-get_or cells f Black below
 
 -- the greatest limit
@@ -45,18 +44,15 @@ limit_small project rate known =
 -- ---- values
 
 -- the front of what was put into a room from a place on
-pub behind_put : (at n k : ℕ) (room value : List ℕ) → at ≤ length room → n ≤ length value
-    → part (put_mid at k room value) at n ≡ take n value
+pub behind_put : (at n k : ℕ) (room value : List ℕ) → at ≤ length room → n ≤ length value → part (put_mid at k room value) at n ≡ take n value
 behind_put at n k room value there within =
     ap (take n) (drop_at (take at room) (value ++ post_of at k room) at (length-take-le at room there)) ∙ take-append-le n value (post_of at k room) within
 
 -- the front of a room that was given back is what was put there
-pub front_kept : (n size : ℕ) (room rest cut bytes : List ℕ) → bytes ≡ cut → cut ≡ take n (take size (room ++ rest)) → n ≤ size
-    → n ≤ length room → bytes ≡ take n room
+pub front_kept : (n size : ℕ) (room rest cut bytes : List ℕ) → bytes ≡ cut → cut ≡ take n (take size (room ++ rest)) → n ≤ size → n ≤ length room → bytes ≡ take n room
 front_kept n size room rest cut bytes is from small within = is ∙ from ∙ take-take n size (room ++ rest) small ∙ take-append-le n room rest within
 
-pub shows_same : (files : Files) (project : ProjectFacts) (cell other : Cell) (value bytes : List ℕ) (before now : ℕ) → cell ≡ other
-    → bytes ≡ value → Shows files project cell value before now → Shows files project other bytes before now
+pub shows_same : (files : Files) (project : ProjectFacts) (cell other : Cell) (value bytes : List ℕ) (before now : ℕ) → cell ≡ other → bytes ≡ value → Shows files project cell value before now → Shows files project other bytes before now
 shows_same files project cell other value bytes before now same is shows = record {
   shown = shows.shown;
   is = ap (cell_shown files project) (sym same) ∙ shows.is;
@@ -65,9 +61,7 @@ shows_same files project cell other value bytes before now same is shows = recor
 }
 
 -- what the frame before shows serves again
-pub takes_again : (files : Files) (project : ProjectFacts) (cells : List Cell) (f : ℕ) (bytes : List ℕ) (taken : ℕ) (repeats : Bool)
-    → cells ≡ cells_of project → (IsTrue repeats ↔ Repeats cells f) → repeats ≡ true → (0 < f → IsValueAt files project (f - 1) bytes)
-    → TakesValue files project f bytes taken taken
+pub takes_again : (files : Files) (project : ProjectFacts) (cells : List Cell) (f : ℕ) (bytes : List ℕ) (taken : ℕ) (repeats : Bool) → cells ≡ cells_of project → (IsTrue repeats ↔ Repeats cells f) → repeats ≡ true → (0 < f → IsValueAt files project (f - 1) bytes) → TakesValue files project f bytes taken taken
 takes_again files project cells f bytes taken repeats are test is held =
     let same : Repeats cells f = test.0 (rw is (search)) in
     let there : IsValueAt files project (f - 1) bytes = held same.0 in
@@ -83,9 +77,7 @@ takes_again files project cells f bytes taken repeats are test is held =
     }
 
 -- a fresh frame was made
-pub takes_fresh : (files : Files) (project : ProjectFacts) (cells : List Cell) (f : ℕ) (bytes : List ℕ) (before now : ℕ) (repeats : Bool)
-    → cells ≡ cells_of project → f < length cells → (IsTrue repeats ↔ Repeats cells f) → repeats ≡ false
-    → Shows files project (get_or cells f Black) bytes before now → TakesValue files project f bytes before now
+pub takes_fresh : (files : Files) (project : ProjectFacts) (cells : List Cell) (f : ℕ) (bytes : List ℕ) (before now : ℕ) (repeats : Bool) → cells ≡ cells_of project → f < length cells → (IsTrue repeats ↔ Repeats cells f) → repeats ≡ false → Shows files project (get_or cells f Black) bytes before now → TakesValue files project f bytes before now
 takes_fresh files project cells f bytes before now repeats are below test is shows = record {
   cell = get_or cells f Black;
   shown = shows.shown;
@@ -104,9 +96,7 @@ is_fresh cells zero test = inl refl
 is_fresh cells (suc f) test = inr (λ same. cc (test.1 (omega arith, same)))
 
 -- a fresh frame was reached
-pub is_reached : (tells : Type 0) (files : Files) (project : ProjectFacts) (cells : List Cell) (f : ℕ) (repeats : Bool)
-    → cells ≡ cells_of project → f < length cells → (IsTrue repeats ↔ Repeats cells f) → repeats ≡ false
-    → (tells → IsOk (cells_shown files project (take f (cells_of project)))) → IsReached tells files project f (get_or cells f Black)
+pub is_reached : (tells : Type 0) (files : Files) (project : ProjectFacts) (cells : List Cell) (f : ℕ) (repeats : Bool) → cells ≡ cells_of project → f < length cells → (IsTrue repeats ↔ Repeats cells f) → repeats ≡ false → (tells → IsOk (cells_shown files project (take f (cells_of project)))) → IsReached tells files project f (get_or cells f Black)
 is_reached tells files project cells f repeats are below test is earlier = record {
   at = cell_is project cells f are below;
   fresh = is_fresh (cells_of project) f (subst (λ (cells : List Cell). IsTrue false ↔ Repeats cells f) are (rw is at test));

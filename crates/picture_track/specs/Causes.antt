@@ -1,5 +1,6 @@
 -- Why there is no picture file, or no frame, ending by ending.
 use Rattle.std.specs.Prelude.{◌≡◌, ◌⊎◌, ℕ, List, take, slice_get, Some, Err, IsOk, ⊤}
+use Rattle.disk_terms.specs.Disk.{History}
 use Rattle.film_project.specs.Facts.{ProjectFacts}
 use Rattle.film_timeline.specs.Timeline.{cells_of, IsFresh}
 use Rattle.film_timeline.specs.declared.cell.Cell.{Cell}
@@ -7,12 +8,15 @@ use Rattle.frame_values.specs.Causes.{IsFault, IsInFile}
 use Rattle.frame_values.specs.Shown.{cell_shown, cells_shown}
 use Rattle.frame_values.specs.declared.ends.BadWhy.{BadWhy}
 use Rattle.frame_values.specs.declared.ends.CellEnd.TheVariants as of_cell
+use Rattle.mast_world.specs.Changes.{IsUnwritten}
 use Rattle.mast_world.specs.Content.{Files}
 use Rattle.mast_world.specs.Count.{HasRisen}
+use Rattle.mast_world.specs.declared.volume.FileId.{FileId}
 use Rattle.picture_track.specs.declared.outcome.FrameEnd.{FrameEnd}
 use Rattle.picture_track.specs.declared.outcome.FrameEnd.TheVariants.{Missing, Bad, SourceFault, NoMemory}
 use Rattle.picture_track.specs.declared.outcome.PictureEnd.{PictureEnd}
 use Rattle.picture_track.specs.declared.outcome.PictureEnd.TheVariants.{Frame, Track}
+use Rattle.picture_track.specs.declared.outcome.PictureEnd.TheVariants as picture
 use Rattle.track_file.specs.Causes.{IsCause}
 use Rattle.track_file.specs.declared.end.TrackEnd.TheVariants as of_track
 
@@ -58,13 +62,19 @@ module _ {A : Type 0} (tells : Type 0) (files : Files) where
   IsSingleCause project f cell absent faults before now SourceFault = HasRisen (faults before) (faults now)
   IsSingleCause project f cell absent faults before now NoMemory = ⊤
 
-  -- of writing the picture file
-  abbrev pub IsPictureCause : {B : Type 0} → ProjectFacts → (A → ℕ) → (A → ℕ) → A → A → (B → ℕ) → B → B → PictureEnd → Type 0
-  IsPictureCause project absent faults before now store_faults volume volume_now (Frame end) =
-      IsFrameCause project absent faults before now end
-  IsPictureCause project absent faults before now store_faults volume volume_now (Track end) =
-      IsCause store_faults volume volume_now end
+  module _ {B : Type 0} (project : ProjectFacts) (absent faults : A → ℕ) (before now : A) where
+    -- of putting the frames into the file
+    abbrev pub IsCopyCause : (B → ℕ) → B → B → PictureEnd → Type 0
+    IsCopyCause store_faults volume volume_now (Frame end) = IsFrameCause project absent faults before now end
+    IsCopyCause store_faults volume volume_now (Track end) = IsCause store_faults volume volume_now end
+    IsCopyCause store_faults volume volume_now picture.NoMemory = ⊥
+
+    -- of writing the file
+    abbrev pub IsPictureCause : Type 0 → (B → FileId → List ℕ) → (B → FileId → ℕ) → (B → ℕ) → (B → History FileId) → B → B → PictureEnd → Type 0
+    IsPictureCause store_tells reads put store_faults history volume volume_now (Frame end) = IsFrameCause project absent faults before now end
+    IsPictureCause store_tells reads put store_faults history volume volume_now (Track end) = IsCause store_faults volume volume_now end
+    IsPictureCause store_tells reads put store_faults history volume volume_now picture.NoMemory = IsUnwritten store_tells reads put history volume volume_now
 
 -- ends for want of memory
 abbrev pub IsOutOfMemory : PictureEnd → Type 0
-IsOutOfMemory end = (end ≡ Track of_track.NoMemory) ⊎ (end ≡ Frame NoMemory)
+IsOutOfMemory end = (end ≡ picture.NoMemory) ⊎ (end ≡ Track of_track.NoMemory) ⊎ (end ≡ Frame NoMemory)

@@ -39,8 +39,7 @@ picture_put picture = length picture + 16508
 -- ---- while it is written
 
 -- the track has what the first f frames show, and nothing else; what was taken for the fresh ones was counted
-pub record HasCopied (volume_tells : Type 0) (files : Files) (project : ProjectFacts) (f : ℕ) (track : PlainTrack) (picture : List ℕ)
-    (taken_before taken_now : ℕ) : Type 0 where
+pub record HasCopied (volume_tells : Type 0) (files : Files) (project : ProjectFacts) (f : ℕ) (track : PlainTrack) (picture : List ℕ) (taken_before taken_now : ℕ) : Type 0 where
   pub frames : List Shown
   pub fresh : List Shown
   pub shown : cells_shown files project (take f (cells_of project)) ≡ Ok frames
@@ -49,8 +48,7 @@ pub record HasCopied (volume_tells : Type 0) (files : Files) (project : ProjectF
   pub taken : taken_now ≡ counted taken_before (all_taken fresh)
 
 -- the track has so many items, each of something that a frame may have; what was put for them was counted
-pub record HasFrameItems (project : ProjectFacts) (frames : ℕ) (track : PlainTrack) (picture : List ℕ)
-    (put_before put_now : ℕ) : Type 0 where
+pub record HasFrameItems (project : ProjectFacts) (frames : ℕ) (track : PlainTrack) (picture : List ℕ) (put_before put_now : ℕ) : Type 0 where
   pub values : List (List ℕ)
   pub count : length values ≡ frames
   pub each : All (IsFrameValue project) values
@@ -60,8 +58,7 @@ pub record HasFrameItems (project : ProjectFacts) (frames : ℕ) (track : PlainT
 -- ---- when it is written
 
 -- all input of the project was read, and the file is its picture file
-pub record IsPicture (volume_tells : Type 0) (files : Files) (project : ProjectFacts) (asset picture : List ℕ)
-    (taken_before taken_now : ℕ) : Type 0 where
+pub record IsPicture (volume_tells : Type 0) (files : Files) (project : ProjectFacts) (asset picture : List ℕ) (taken_before taken_now : ℕ) : Type 0 where
   pub made : List ℕ
   pub size : ℕ
   pub shown : picture_of files project asset ≡ Ok made

@@ -45,8 +45,7 @@ pub(crate) fn take_value<S: Source>(
     ensures value { IfOk result (λ n. IsFrameValue plan.now.project (part room.new 20 n)) }
     ensures size { IfOk result (λ n. n ≤ (limits_of plan.now.project).frame) }
 
-    ensures ended { IfErr result (IsFrameCause S.tells (S.file source.old) plan.now.project
-        S.absent S.faults source.old source.new) }
+    ensures ended { IfErr result (IsFrameCause S.tells (S.file source.old) plan.now.project S.absent S.faults source.old source.new) }
     ensures untroubled { OnOk result (S.faults source.new ≡ S.faults source.old) }
     ensures kept { IsSameSource S.file S.absent S.taken S.faults source.old source.new }
 {

@@ -17,8 +17,10 @@ pub enum FrameEnd {
 #[derive(Debug, Drop)]
 pub enum PictureEnd {
     Frame(FrameEnd),
-    /// The file wasn't written on, or there was no memory for what all frames share.
+    /// The file wasn't written on.
     Track(TrackEnd),
+    /// There was no memory for what all frames share.
+    NoMemory,
 }
 
 impl FrameEnd {
@@ -84,12 +86,11 @@ impl From<TrackEnd> for PictureEnd {
 
 impl From<AllocError> for PictureEnd {
     ghost use Rattle.std.specs.Prelude.{◌≡◌};
-    ghost use Rattle.picture_track.specs.declared.outcome.PictureEnd.TheVariants.{Track};
-    ghost use Rattle.track_file.specs.declared.end.TrackEnd.TheVariants.{NoMemory};
+    ghost use Rattle.picture_track.specs.declared.outcome.PictureEnd.TheVariants as end;
 
-    ghost from_gives = { λ _ made. made ≡ Track NoMemory };
+    ghost from_gives = { λ _ made. made ≡ end.NoMemory };
 
     fn from(_error: AllocError) -> Self {
-        PictureEnd::Track(TrackEnd::NoMemory)
+        PictureEnd::NoMemory
     }
 }

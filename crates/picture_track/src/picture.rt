@@ -5,7 +5,7 @@ ghost use Rattle.frame_values.specs.Causes.{AreEncodedFrames};
 ghost use Rattle.mast_world.specs.Changes.{IsSameBeside, IsSameSource, Only};
 ghost use Rattle.mast_world.specs.Count.{HasRisen, counted};
 ghost use Rattle.mast_world.specs.declared.volume.FileId.TheVariants.{Picture};
-ghost use Rattle.picture_track.specs.Causes.{IsOutOfMemory, IsPictureCause};
+ghost use Rattle.picture_track.specs.Causes.{IsCopyCause, IsOutOfMemory, IsPictureCause};
 ghost use Rattle.picture_track.specs.Picture.{HasCopied, HasFrameItems, HasFrameValues, IsPicture};
 ghost use Rattle.picture_track.specs.Picture.{picture_facts, picture_of, picture_put};
 ghost use Rattle.picture_track.specs.declared.picture.TheConstants.{PICTURE};
@@ -39,8 +39,7 @@ fn begin_track<V: Volume>(
     asset: &[u8; 16],
     volume: &mut V,
 ) -> Result<TrackFile, TrackEnd>
-    ensures begun { IfOk result (λ track. (track.facts ≡ picture_facts project.now asset.now)
-        × (track.file ≡ PICTURE) × HasValues track []) }
+    ensures begun { IfOk result (λ track. (track.facts ≡ picture_facts project.now asset.now) × (track.file ≡ PICTURE) × HasValues track []) }
     ensures written { V.tells → IfOk result (λ track. HasItems track [] (V.reads volume.new PICTURE)) }
     ensures end { V.tells → IfOk result (λ track. length (V.reads volume.new PICTURE) ≡ track.place) }
     ensures put { OnOk result (V.put volume.new PICTURE ≡ counted (V.put volume.old PICTURE) 16508) }
@@ -88,7 +87,7 @@ fn copy_frames<S: Source, V: Volume>(
     ensures same_facts { OnOk result (track.new.facts ≡ track.old.facts) }
     ensures same_file { OnOk result (track.new.file ≡ PICTURE) }
 
-    ensures ended { IfErr result (IsPictureCause S.tells (S.file source.old) plan.now.project
+    ensures ended { IfErr result (IsCopyCause S.tells (S.file source.old) plan.now.project
         S.absent S.faults source.old source.new V.faults volume.old volume.new) }
     ensures source_untroubled { OnOk result (S.faults source.new ≡ S.faults source.old) }
     ensures volume_untroubled { OnOk result (V.faults volume.new ≡ V.faults volume.old) }
@@ -105,7 +104,7 @@ fn copy_frames<S: Source, V: Volume>(
 }
 
 /// Writes the picture file of the plan, an MXF track of what its frames show. `asset` is the UUID of the
-/// picture as an asset of its package. The room for an item and for the places of all of them is taken before
+/// picture as an asset of its package. All memory that the frames share but for the maker's is taken before
 /// the volume is touched.
 pub fn write_picture<S: Source, V: Volume>(
     alloc: Global,
@@ -131,8 +130,8 @@ pub fn write_picture<S: Source, V: Volume>(
     ensures source_untroubled { OnOk result (S.faults source.new ≡ S.faults source.old) }
     ensures volume_untroubled { OnOk result (V.faults volume.new ≡ V.faults volume.old) }
 
-    ensures ended { IfErr result (IsPictureCause S.tells (S.file source.old) plan.now.project
-        S.absent S.faults source.old source.new V.faults volume.old volume.new) }
+    ensures ended { IfErr result (IsPictureCause S.tells (S.file source.old) plan.now.project S.absent S.faults
+        source.old source.new V.tells V.reads V.put V.faults V.history volume.old volume.new) }
 
     // What stays in any case.
     ensures kept { IsSameSource S.file S.absent S.taken S.faults source.old source.new }

@@ -1,8 +1,8 @@
 use Rattle.std.proofs.Common.{◌≡◌, ℕ, ◌+◌, ◌-◌, ◌≤◌, ◌++◌, ◌∙◌, refl, ap, subst, sym, arith, length, drop, take}
 use Rattle.std.proofs.lemmas.List.{drop-take, length-drop, length-take, length-take-le}
 use Rattle.frame_values.specs.Causes.{IsFrameValue}
-use Rattle.mast_world.proofs.Kept.{beside_kept, source_kept, source_kept_on}
-use Rattle.mast_world.specs.Changes.{Only}
+use Rattle.mast_world.proofs.Kept.{beside_kept, beside_kept_on, source_kept, source_kept_on}
+use Rattle.mast_world.specs.Changes.{IsSameBeside, Only}
 use Rattle.mast_world.specs.Content.{part}
 use Rattle.mast_world.specs.Count.{counted}
 use Rattle.mast_world.specs.declared.volume.FileId.{FileId}
@@ -10,7 +10,7 @@ use Rattle.track_terms.specs.Track.{essence}
 use Rattle.picture_track.specs.Frames.{IsValueAt, TakesValue}
 use Rattle.picture_track.specs.Picture.{HasCopied}
 use Rattle.picture_track.specs.declared.picture.TheConstants.{PICTURE}
-use Rattle.picture_track.proofs.Copied.{beside_on, Grows, Grows-of, HasCopied_more, HasFrameItems_more, held_next, no_items, nothing_copied, value_kept}
+use Rattle.picture_track.proofs.Copied.{Grows, Grows-of, HasCopied_more, HasFrameItems_more, held_next, no_items, nothing_copied, value_kept}
 use Rattle.picture_track.proofs.Frames.{limit_small}
 use Rattle.picture_track.proofs.picture.copy_frames.Goals as goal
 
@@ -29,9 +29,7 @@ loop-frame-init g c =
       same_file = c.requires.file;
       count = ap length c.requires.begun.places;
       end = c.requires.end;
-      copied = λ tells.
-          nothing_copied volume.tells (source.file c.args.source.now) project track picture (source.taken c.args.source.now)
-          c.requires.written;
+      copied = λ tells. nothing_copied volume.tells (source.file c.args.source.now) project track picture (source.taken c.args.source.now) c.requires.written;
       items = λ tells. no_items project track picture (volume.put c.args.volume.now PICTURE) (c.requires.written tells);
       source_untroubled = refl;
       volume_untroubled = refl;
@@ -49,8 +47,10 @@ pub returns-in_err-append-clause-beside : goal.returns-in_err-append-clause-besi
 returns-in_err-append-clause-beside g c =
     let volume = g.V.Volume in
     let before = c.loop-frame.invariant in
-    beside_on volume.tells volume.reads volume.put volume.faults volume.history c.args.volume.now c.loop-frame.volume c.append.new.volume
-    c.loop-frame.track.file PICTURE before.same_file before.beside c.append.ensures.beside
+    beside_kept_on (Only PICTURE) volume.tells volume.reads volume.put volume.faults volume.history c.args.volume.now c.loop-frame.volume c.append.new.volume
+    before.beside
+    (subst (λ (file : FileId). IsSameBeside (Only file) volume.tells volume.reads volume.put volume.faults volume.history c.loop-frame.volume c.append.new.volume)
+    before.same_file c.append.ensures.beside)
 
 pub loop-frame-preserved : goal.loop-frame-preserved
 loop-frame-preserved g c =
@@ -94,15 +94,15 @@ loop-frame-preserved g c =
           HasFrameItems_more project f c.loop-frame.track c.append.new.self (old PICTURE) (new PICTURE) bytes
           (volume.put c.args.volume.now PICTURE) (volume.put c.loop-frame.volume PICTURE) (volume.put c.append.new.volume PICTURE)
           (before.items tells) step.value end.same_facts (grows tells)
-          (subst (λ (file : FileId). volume.put c.append.new.volume file ≡ counted (volume.put c.loop-frame.volume file) (length (take (20 + held) room)))
-          before.same_file end.put
+          (subst (λ (file : FileId). volume.put c.append.new.volume file ≡ counted (volume.put c.loop-frame.volume file) (length (take (20 + held) room))) before.same_file end.put
           ∙ ap (counted (volume.put c.loop-frame.volume PICTURE)) long);
       source_untroubled = step.untroubled ∙ before.source_untroubled;
       volume_untroubled = end.untroubled ∙ before.volume_untroubled;
-      kept = source_kept_on source.file source.absent source.taken source.faults c.args.source.now c.loop-frame.source c.take_value.new.source
-          before.kept step.kept;
-      beside = beside_on volume.tells volume.reads volume.put volume.faults volume.history c.args.volume.now c.loop-frame.volume c.append.new.volume
-          c.loop-frame.track.file PICTURE before.same_file before.beside end.beside;
+      kept = source_kept_on source.file source.absent source.taken source.faults c.args.source.now c.loop-frame.source c.take_value.new.source before.kept step.kept;
+      beside = beside_kept_on (Only PICTURE) volume.tells volume.reads volume.put volume.faults volume.history c.args.volume.now c.loop-frame.volume c.append.new.volume
+          before.beside
+          (subst (λ (file : FileId). IsSameBeside (Only file) volume.tells volume.reads volume.put volume.faults volume.history c.loop-frame.volume c.append.new.volume)
+          before.same_file c.append.ensures.beside);
     }
 
 pub returns-clause-copied : goal.returns-clause-copied
@@ -111,7 +111,5 @@ returns-clause-copied g c = λ tells.
     let volume = g.V.Volume in
     let all : c.project.inside.frames ≡ c.args.plan.now.project.frames = ap (λ project. project.frames) c.project.view_is in
     let e : c.loop-frame.frame ≡ c.args.plan.now.project.frames = omega (arith, all) in
-    let Copied : ℕ → Type 0 =
-    λ f. HasCopied volume.tells (source.file c.args.source.now) c.args.plan.now.project f c.loop-frame.track
-    (volume.reads c.loop-frame.volume PICTURE) (source.taken c.args.source.now) (source.taken c.loop-frame.source) in
-    subst Copied e (c.loop-frame.invariant.copied tells)
+    subst (λ (f : ℕ). HasCopied volume.tells (source.file c.args.source.now) c.args.plan.now.project f c.loop-frame.track (volume.reads c.loop-frame.volume PICTURE) (source.taken c.args.source.now) (source.taken c.loop-frame.source)) e
+    (c.loop-frame.invariant.copied tells)

@@ -22,10 +22,8 @@ invariant-loop-frame g l =
       same_file : l.track.file ≡ PICTURE;
       count : length l.track.places ≡ l.frame;
       end : volume.tells → length (volume.reads l.volume PICTURE) ≡ l.track.place;
-      copied : source.tells → HasCopied volume.tells (source.file l.fn.source) project l.frame l.track (volume.reads l.volume PICTURE)
-          (source.taken l.fn.source) (source.taken l.source);
-      items : volume.tells → HasFrameItems project l.frame l.track (volume.reads l.volume PICTURE)
-          (volume.put l.fn.volume PICTURE) (volume.put l.volume PICTURE);
+      copied : source.tells → HasCopied volume.tells (source.file l.fn.source) project l.frame l.track (volume.reads l.volume PICTURE) (source.taken l.fn.source) (source.taken l.source);
+      items : volume.tells → HasFrameItems project l.frame l.track (volume.reads l.volume PICTURE) (volume.put l.fn.volume PICTURE) (volume.put l.volume PICTURE);
       source_untroubled : source.faults l.source ≡ source.faults l.fn.source;
       volume_untroubled : volume.faults l.volume ≡ volume.faults l.fn.volume;
       kept : IsSameSource source.file source.absent source.taken source.faults l.fn.source l.source;

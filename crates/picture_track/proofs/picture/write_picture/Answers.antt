@@ -1,22 +1,20 @@
 use Rattle.std.proofs.Common.{◌≡◌, ◌∙◌, ◌+◌, length, ap, subst}
 use Rattle.std.proofs.lemmas.Result.{IfErr-at_err, err_from_is_err_and}
 use Rattle.mast_world.proofs.Kept.{beside_kept_on}
-use Rattle.mast_world.specs.Changes.{Only}
+use Rattle.mast_world.specs.Changes.{IsSameBeside, Only}
 use Rattle.mast_world.specs.Count.{counted}
 use Rattle.mast_world.specs.declared.volume.FileId.{FileId}
 use Rattle.mxf_track.specs.Sizes.{tail_size}
-use Rattle.picture_track.specs.Causes.{IsOutOfMemory, IsPictureCause}
+use Rattle.picture_track.specs.Causes.{IsCopyCause, IsOutOfMemory, IsPictureCause}
 use Rattle.picture_track.specs.declared.picture.TheConstants.{PICTURE}
-use Rattle.picture_track.proofs.Copied.{beside_on}
 use Rattle.picture_track.proofs.Encoded.{encoded_frames}
-use Rattle.picture_track.proofs.Outcomes.{Finishes-of, all_put, all_shown, ended_by, picture_left, picture_made, values_made}
+use Rattle.picture_track.proofs.Outcomes.{Finishes-of, all_put, all_shown, copy_cause, ended_by, picture_left, picture_made, values_made}
 use Rattle.picture_track.proofs.picture.write_picture.Goals as goal
 
 pub returns-in_err-copy_frames-clause-beside : goal.returns-in_err-copy_frames-clause-beside
 returns-in_err-copy_frames-clause-beside g c =
     let volume = g.V.Volume in
-    let begun = c.begin_track.new.volume in
-    beside_kept_on (Only PICTURE) volume.tells volume.reads volume.put volume.faults volume.history c.args.volume.now begun c.copy_frames.new.volume
+    beside_kept_on (Only PICTURE) volume.tells volume.reads volume.put volume.faults volume.history c.args.volume.now c.begin_track.new.volume c.copy_frames.new.volume
     c.begin_track.ensures.beside c.copy_frames.ensures.beside
 
 pub returns-in_err-copy_frames-clause-complete : goal.returns-in_err-copy_frames-clause-complete
@@ -29,24 +27,21 @@ returns-in_err-copy_frames-clause-complete g c = λ tells some calm still.
     let first = c.begin_track.new.volume in
     let last = c.copy_frames.new.volume in
     let p = err_from_is_err_and c.from_residual-in_err-copy_frames.result c.from_residual-in_err-copy_frames.ensures.1 in
-    let now = c.copy_frames.new.source in
-    let why =
-    IfErr-at_err (IsPictureCause source.tells files project source.absent source.faults c.args.source.now now volume.faults first last)
+    let why = IfErr-at_err (IsCopyCause source.tells files project source.absent source.faults c.args.source.now c.copy_frames.new.source volume.faults first last)
     c.in_err-copy_frames.was c.copy_frames.ensures.ended in
     ended_by c.from_residual-in_err-copy_frames.result p.0 end IsOutOfMemory p.1 p.2
-    (picture_left tells files project c.args.asset.now source.absent source.faults c.args.source.now now volume.faults first last end some
-    calm (rw (← c.in_ok-track.ensures.untroubled) at still) why)
+    (picture_left tells files project c.args.asset.now source.absent source.faults c.args.source.now c.copy_frames.new.source volume.faults first last end some calm
+    (rw (← c.in_ok-track.ensures.untroubled) at still) why)
 
 pub returns-in_err-finish-clause-beside : goal.returns-in_err-finish-clause-beside
 returns-in_err-finish-clause-beside g c =
     let volume = g.V.Volume in
-    let begun = c.begin_track.new.volume in
     let copied = c.copy_frames.new.volume in
-    beside_on volume.tells volume.reads volume.put volume.faults volume.history c.args.volume.now copied c.finish.new.volume
-    c.copy_frames.new.track.file PICTURE c.in_ok-copy_frames.ensures.same_file
-    (beside_kept_on (Only PICTURE) volume.tells volume.reads volume.put volume.faults volume.history c.args.volume.now begun copied
+    beside_kept_on (Only PICTURE) volume.tells volume.reads volume.put volume.faults volume.history c.args.volume.now copied c.finish.new.volume
+    (beside_kept_on (Only PICTURE) volume.tells volume.reads volume.put volume.faults volume.history c.args.volume.now c.begin_track.new.volume copied
     c.begin_track.ensures.beside c.copy_frames.ensures.beside)
-    c.finish.ensures.beside
+    (subst (λ (file : FileId). IsSameBeside (Only file) volume.tells volume.reads volume.put volume.faults volume.history copied c.finish.new.volume)
+    c.in_ok-copy_frames.ensures.same_file c.finish.ensures.beside)
 
 pub returns-clause-written : goal.returns-clause-written
 returns-clause-written g c = λ tells.
@@ -83,8 +78,7 @@ returns-clause-put g c = λ told.
     (volume.put c.begin_track.new.volume PICTURE) (volume.put c.copy_frames.new.volume PICTURE) (volume.put c.finish.new.volume PICTURE)
     (ap (λ facts. length facts.asset) facts ∙ c.told-asset) (ap (λ facts. facts.frames) facts)
     (Finishes-of track before now PICTURE copied.same_file (c.in_ok-finish.ensures.track told)) c.in_ok-track.ensures.put (copied.items told)
-    (subst
-    (λ (file : FileId). volume.put c.finish.new.volume file ≡ counted (volume.put c.copy_frames.new.volume file) (tail_size track.facts.frames + 16508))
+    (subst (λ (file : FileId). volume.put c.finish.new.volume file ≡ counted (volume.put c.copy_frames.new.volume file) (tail_size track.facts.frames + 16508))
     copied.same_file c.in_ok-finish.ensures.put)
 
 pub returns-clause-encoded : goal.returns-clause-encoded
@@ -98,10 +92,27 @@ returns-clause-encoded g c = λ tells.
 pub returns-clause-beside : goal.returns-clause-beside
 returns-clause-beside g c =
     let volume = g.V.Volume in
-    let begun = c.begin_track.new.volume in
     let copied = c.copy_frames.new.volume in
-    beside_on volume.tells volume.reads volume.put volume.faults volume.history c.args.volume.now copied c.finish.new.volume
-    c.copy_frames.new.track.file PICTURE c.in_ok-copy_frames.ensures.same_file
-    (beside_kept_on (Only PICTURE) volume.tells volume.reads volume.put volume.faults volume.history c.args.volume.now begun copied
+    beside_kept_on (Only PICTURE) volume.tells volume.reads volume.put volume.faults volume.history c.args.volume.now copied c.finish.new.volume
+    (beside_kept_on (Only PICTURE) volume.tells volume.reads volume.put volume.faults volume.history c.args.volume.now c.begin_track.new.volume copied
     c.begin_track.ensures.beside c.copy_frames.ensures.beside)
-    c.finish.ensures.beside
+    (subst (λ (file : FileId). IsSameBeside (Only file) volume.tells volume.reads volume.put volume.faults volume.history copied c.finish.new.volume)
+    c.in_ok-copy_frames.ensures.same_file c.finish.ensures.beside)
+
+pub returns-in_err-copy_frames-clause-ended : goal.returns-in_err-copy_frames-clause-ended
+returns-in_err-copy_frames-clause-ended g c =
+    let source = g.S.Source in
+    let volume = g.V.Volume in
+    let files = source.file c.args.source.now in
+    let project = c.args.plan.now.project in
+    let end = c.in_err-copy_frames.field-0.0 in
+    let first = c.begin_track.new.volume in
+    let last = c.copy_frames.new.volume in
+    let now = c.copy_frames.new.source in
+    let p = err_from_is_err_and c.from_residual-in_err-copy_frames.result c.from_residual-in_err-copy_frames.ensures.1 in
+    let why = IfErr-at_err (IsCopyCause source.tells files project source.absent source.faults c.args.source.now now volume.faults first last)
+    c.in_err-copy_frames.was c.copy_frames.ensures.ended in
+    ended_by c.from_residual-in_err-copy_frames.result p.0 end
+    (IsPictureCause source.tells files project source.absent source.faults c.args.source.now now volume.tells volume.reads volume.put volume.faults volume.history c.args.volume.now last) p.1 p.2
+    (copy_cause source.tells files project source.absent source.faults c.args.source.now now volume.tells volume.reads volume.put volume.faults volume.history
+    c.args.volume.now first last end c.in_ok-track.ensures.untroubled why)
