@@ -1,0 +1,5 @@
+//! Tests of mixed sound.
+#![tactic(auto)]
+
+#[cfg(test)]
+mod frames;
