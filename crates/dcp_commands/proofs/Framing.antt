@@ -12,9 +12,9 @@ use Rattle.film_project.specs.declared.refusal.ProjectRefusal.{ProjectRefusal}
 use Rattle.frame_values.specs.Causes.{Shows}
 use Rattle.frame_values.specs.Shown.{cell_shown}
 use Rattle.frame_values.specs.declared.ends.BadWhy.{BadWhy}
-use Rattle.make_engine.specs.Causes.{IsSingleCause}
-use Rattle.make_engine.specs.declared.outcome.FrameEnd.{FrameEnd}
-use Rattle.make_engine.specs.declared.outcome.FrameEnd.TheVariants as of_frame
+use Rattle.picture_track.specs.Causes.{IsSingleCause}
+use Rattle.picture_track.specs.declared.outcome.FrameEnd.{FrameEnd}
+use Rattle.picture_track.specs.declared.outcome.FrameEnd.TheVariants as of_frame
 use Rattle.mast_world.specs.Content.{Files}
 use Rattle.mast_world.specs.Count.{HasRisen}
 use Rattle.dcp_commands.specs.Frame.{IsCause, IsFrameStop, IsFrameText, IsStop, cell_of, frame_answer, of_cell, with_project}

@@ -1,3 +1,4 @@
+mod Folders
 mod Framing
 mod Making
 mod Numbers

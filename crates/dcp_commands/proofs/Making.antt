@@ -1,7 +1,8 @@
 -- How a run of `make` ends, from how its parts end.
 use Rattle.std.proofs.Common.{◌≡◌, ◌≢◌, ℕ, ◌+◌, ◌≤◌, Bool, true, false, cond, List, length, Some, None, Ok, Err, refl, inl, inr, ap, sym, subst, ◌∙◌, arith}
+use Rattle.std.proofs.lemmas.Result.{IfErr-at_err}
 use Rattle.std.specs.Result.{result_ok}
-use Rattle.std.specs.Prelude.{◌⊎◌, IsFalse, IsTrue, IsOk, IsSome, IsSomeAnd, IfErr, OnOk, Option, Result}
+use Rattle.std.specs.Prelude.{◌⊎◌, IsOk, IsSome, IsSomeAnd, IfErr, OnOk, Option, Result}
 use Rattle.film_project.specs.Facts.{ProjectFacts}
 use Rattle.film_project.specs.declared.refusal.ProjectRefusal.{ProjectRefusal}
 use Rattle.film_project.specs.declared.refusal.ProjectRefusal.TheVariants as project
@@ -10,11 +11,9 @@ use Rattle.film_inputs.specs.Inputs.{planned}
 use Rattle.film_inputs.specs.declared.ends.InputEnd.TheVariants as input
 use Rattle.film_inputs.specs.declared.ends.PlanEnd.{PlanEnd}
 use Rattle.film_inputs.specs.declared.ends.PlanEnd.TheVariants as of_plan
-use Rattle.make_engine.specs.Causes.{IsFrameCause, IsMakeCause, IsOutOfMemory}
-use Rattle.make_engine.specs.Engine.{IsMade}
-use Rattle.make_engine.specs.Package.{is_built, picture_of}
-use Rattle.make_engine.specs.declared.outcome.FrameEnd.{FrameEnd}
-use Rattle.make_engine.specs.declared.outcome.FrameEnd.TheVariants as of_frame
+use Rattle.make_engine.proofs.Making.{sound_cause}
+use Rattle.make_engine.specs.Causes.{IsMakeCause, IsOutOfMemory}
+use Rattle.make_engine.specs.Package.{IsMade, package_files}
 use Rattle.make_engine.specs.declared.outcome.MakeEnd.{MakeEnd}
 use Rattle.make_engine.specs.declared.outcome.MakeEnd.TheVariants as of_make
 use Rattle.make_engine.specs.declared.outcome.Report.{Report}
@@ -22,6 +21,16 @@ use Rattle.disk_terms.specs.Disk.{History}
 use Rattle.mast_world.specs.Content.{Files}
 use Rattle.mast_world.specs.Count.{HasRisen, counted}
 use Rattle.mast_world.specs.declared.volume.FileId.{FileId}
+use Rattle.pcm_mix.specs.declared.refusal.SoundRefusal.TheVariants as of_mix
+use Rattle.picture_track.specs.Causes.{IsFrameCause}
+use Rattle.picture_track.specs.declared.outcome.FrameEnd.{FrameEnd}
+use Rattle.picture_track.specs.declared.outcome.FrameEnd.TheVariants as of_frame
+use Rattle.picture_track.specs.declared.outcome.PictureEnd.{PictureEnd}
+use Rattle.picture_track.specs.declared.outcome.PictureEnd.TheVariants as of_picture
+use Rattle.sound_track.specs.declared.end.SoundEnd.{SoundEnd}
+use Rattle.sound_track.specs.declared.end.SoundEnd.TheVariants as of_sound
+use Rattle.track_file.proofs.Written.{counted-counted}
+use Rattle.track_file.specs.declared.end.TrackEnd.TheVariants as of_track
 use Rattle.stream_inspect.specs.declared.ends.InspectEnd.TheVariants as of_read
 use Rattle.dcp_commands.specs.Make.{IsCause, IsMakeStop, IsPackage, IsPlanStop, IsStop, checked, frames_of, of_checked, package_of, project_of, text_of, with_plan}
 use Rattle.dcp_commands.specs.Status.{Answers, plan_status, refused_status, status_of, stopped_status}
@@ -29,7 +38,7 @@ use Rattle.dcp_commands.specs.Words.{MakeWords, make_words}
 use Rattle.dcp_commands.specs.declared.stopped.Stopped.{Stopped}
 use Rattle.dcp_commands.specs.declared.stopped.Stopped.TheVariants as stop
 use Rattle.dcp_commands.specs.declared.status.Status.{Status}
-use Rattle.dcp_commands.specs.declared.status.Status.TheVariants.{Done, Usage, ProjectRefused, SourceFault, SinkFault, NoMemory, Unbuilt}
+use Rattle.dcp_commands.specs.declared.status.Status.TheVariants.{Done, Usage, ProjectRefused, SourceFault, SinkFault, NoMemory}
 
 not_some : {A : Type 0} (o : Option A) → IsSome o → o ≡ None → ⊥
 not_some None some none = absurd (cc)
@@ -39,26 +48,10 @@ ok_where : {T E : Type 0} (r : Result T E) → IsSome (result_ok r) → IsOk r
 ok_where (Ok x) some = refl
 ok_where (Err end) some = absurd (cc)
 
-counted-counted : (c a b : ℕ) → counted (counted c a) b ≡ counted c (a + b)
-counted-counted c a b = omega arith
-
--- what is known of the error that a call hands up, and of the error itself
-pub ended_by : {T E : Type 0} (r : Result T E) (made end : E) (P : E → Type 0) → r ≡ Err made → made ≡ end → P end → IfErr r P
-ended_by r made end P is same holds = subst (λ r. IfErr r P) (sym (is ∙ ap Err same)) holds
-
-pub cause_of : {T E : Type 0} (r : Result T E) (end : E) (P : E → Type 0) → r ≡ Err end → IfErr r P → P end
-cause_of r end P is holds = subst (λ r. IfErr r P) is holds
-
 -- ---- what the words and the files lead to
 
-pub checked_by : (files : Files) (words : List (List ℕ)) (asked : MakeWords) (project : ProjectFacts) → make_words words ≡ Some asked → planned files asked.project ≡ Ok project → checked files words ≡ with_plan (Ok project)
+pub checked_by : (files : Files) (words : List (List ℕ)) (asked : MakeWords) (project : ProjectFacts) → make_words words ≡ Some asked → planned files asked.project ≡ Ok project → checked files words ≡ Ok project
 checked_by files words asked project accepted is = rw (accepted, is) refl
-
-pub checked_built : (files : Files) (words : List (List ℕ)) (asked : MakeWords) (project : ProjectFacts) → make_words words ≡ Some asked → planned files asked.project ≡ Ok project → is_built project ≡ true → checked files words ≡ Ok project
-checked_built files words asked project accepted is on = checked_by files words asked project accepted is ∙ ap (λ b. cond b (Ok project) (Err Unbuilt)) on
-
-checked_unbuilt : (files : Files) (words : List (List ℕ)) (asked : MakeWords) (project : ProjectFacts) → make_words words ≡ Some asked → planned files asked.project ≡ Ok project → is_built project ≡ false → checked files words ≡ Err Unbuilt
-checked_unbuilt files words asked project accepted is off = checked_by files words asked project accepted is ∙ ap (λ b. cond b (Ok project) (Err Unbuilt)) off
 
 checked_ends : (files : Files) (words : List (List ℕ)) (asked : MakeWords) (end : PlanEnd) → make_words words ≡ Some asked → planned files asked.project ≡ Err end → checked files words ≡ Err (plan_status end)
 checked_ends files words asked end accepted is = rw (accepted, is) refl
@@ -70,15 +63,6 @@ none_ends files words none = rw none refl
 package_none : (files : Files) (words : List (List ℕ)) (status : Status) → checked files words ≡ Err status → IsSome (package_of files words) → ⊥
 package_none files words status is some = not_some (package_of files words) some (rw is refl)
 
--- what is made is built
-pub built : (b : Bool) (made : Result Report MakeEnd) (report : Report) → made ≡ Ok report → (IsFalse b → made ≡ Err of_make.Unbuilt) → b ≡ true
-built true made report is ends = refl
-built false made report is ends = absurd (cc (is, ends refl))
-
-built_unless : (b : Bool) (end : MakeEnd) → (end ≡ of_make.Unbuilt → ⊥) → (IsFalse b → end ≡ of_make.Unbuilt) → b ≡ true
-built_unless true end other off = refl
-built_unless false end other off = absurd (other (off refl))
-
 pub frames_are : (files : Files) (words : List (List ℕ)) (project : ProjectFacts) → checked files words ≡ Ok project → frames_of files words ≡ Some project.frames
 frames_are files words project told = rw told refl
 
@@ -88,10 +72,10 @@ some_text (Some text) P is = (text, refl, is)
 
 -- the package of the words' project
 pub packaged :
-    (volume_tells : Type 0) (files : Files) (words : List (List ℕ)) (asked : MakeWords) (project : ProjectFacts) (text picture : List ℕ) (before between now : ℕ) →
+    (volume_tells : Type 0) (files : Files) (words : List (List ℕ)) (asked : MakeWords) (project : ProjectFacts) (text : List ℕ) (reads : FileId → List ℕ) (before between now : ℕ) →
     make_words words ≡ Some asked → checked files words ≡ Ok project → files asked.project ≡ Some text → between ≡ counted before (length text) →
-    IsMade volume_tells files project picture between now → IsPackage volume_tells files words picture before now
-packaged volume_tells files words asked project text picture before between now accepted told there first it =
+    IsMade volume_tells files project reads between now → IsPackage volume_tells files words reads before now
+packaged volume_tells files words asked project text reads before between now accepted told there first it =
     let of_text : text_of files words ≡ Some text = rw accepted there in
     let of_project : project_of files words ≡ Some project = ap of_checked told in
     record {
@@ -139,12 +123,17 @@ ordinary (stop.Plan (of_plan.Input input.NoMemory)) = tt
 ordinary (stop.Plan (of_plan.Project refusal)) = ordinary_refused refusal
 ordinary (stop.Plan (of_plan.Plan (short.InputShort asset size need))) = tt
 ordinary (stop.Plan (of_plan.Plan short.NoMemory)) = tt
-ordinary (stop.Make (of_make.Frame (of_frame.Missing name))) = tt
-ordinary (stop.Make (of_make.Frame (of_frame.Bad frame why))) = tt
-ordinary (stop.Make (of_make.Frame of_frame.SourceFault)) = tt
-ordinary (stop.Make (of_make.Frame of_frame.NoMemory)) = tt
-ordinary (stop.Make of_make.StoreFault) = tt
-ordinary (stop.Make of_make.Unbuilt) = tt
+ordinary (stop.Make (of_make.Picture (of_picture.Frame (of_frame.Missing name)))) = tt
+ordinary (stop.Make (of_make.Picture (of_picture.Frame (of_frame.Bad frame why)))) = tt
+ordinary (stop.Make (of_make.Picture (of_picture.Frame of_frame.SourceFault))) = tt
+ordinary (stop.Make (of_make.Picture (of_picture.Frame of_frame.NoMemory))) = tt
+ordinary (stop.Make (of_make.Picture (of_picture.Track of_track.StoreFault))) = tt
+ordinary (stop.Make (of_make.Picture (of_picture.Track of_track.NoMemory))) = tt
+ordinary (stop.Make (of_make.Picture of_picture.NoMemory)) = tt
+ordinary (stop.Make (of_make.Sound (of_sound.Sound of_mix.SourceFault))) = tt
+ordinary (stop.Make (of_make.Sound (of_sound.Sound of_mix.NoMemory))) = tt
+ordinary (stop.Make (of_make.Sound (of_sound.Track of_track.StoreFault))) = tt
+ordinary (stop.Make (of_make.Sound (of_sound.Track of_track.NoMemory))) = tt
 ordinary (stop.Make of_make.NoMemory) = tt
 ordinary (stop.Read (of_read.Missing name)) = tt
 ordinary (stop.Read (of_read.TooLong size)) = tt
@@ -172,8 +161,8 @@ told_answer result status wanted (inr (inl is)) told = inr (inr (inl is))
 told_answer result status wanted (inr (inr is)) told = inr (inr (inr is))
 
 -- a package has no early end
-pub package_told : (volume_tells : Type 0) (files : Files) (words : List (List ℕ)) (picture : List ℕ) (before now : ℕ) (wanted : Status) → IsPackage volume_tells files words picture before now → checked files words ≡ Err wanted → ⊥
-package_told volume_tells files words picture before now wanted it is =
+pub package_told : (volume_tells : Type 0) (files : Files) (words : List (List ℕ)) (reads : FileId → List ℕ) (before now : ℕ) (wanted : Status) → IsPackage volume_tells files words reads before now → checked files words ≡ Err wanted → ⊥
+package_told volume_tells files words reads before now wanted it is =
     let none : package_of files words ≡ None = rw is refl in cc (none, it.is)
 
 -- ---- causes
@@ -195,10 +184,12 @@ pub make_cause :
     absent before ≤ absent between → faults before ≤ faults between →
     IsMakeCause tells files project absent faults between now store_tells reads put store_faults history volume volume_now end →
     IsMakeCause tells files project absent faults before now store_tells reads put store_faults history volume volume_now end
-make_cause tells files project absent faults before between now store_tells reads put store_faults history volume volume_now (of_make.Frame end) fewer less is =
+make_cause tells files project absent faults before between now store_tells reads put store_faults history volume volume_now (of_make.Picture (of_picture.Frame end)) fewer less is =
     frame_cause tells files project absent faults before between now end fewer less is
-make_cause tells files project absent faults before between now store_tells reads put store_faults history volume volume_now of_make.StoreFault fewer less is = is
-make_cause tells files project absent faults before between now store_tells reads put store_faults history volume volume_now of_make.Unbuilt fewer less is = is
+make_cause tells files project absent faults before between now store_tells reads put store_faults history volume volume_now (of_make.Picture (of_picture.Track end)) fewer less is = is
+make_cause tells files project absent faults before between now store_tells reads put store_faults history volume volume_now (of_make.Picture of_picture.NoMemory) fewer less is = is
+make_cause tells files project absent faults before between now store_tells reads put store_faults history volume volume_now (of_make.Sound end) fewer less is =
+    (is.0, sound_cause faults before between now store_faults volume volume volume_now end less (omega arith) is.1)
 make_cause tells files project absent faults before between now store_tells reads put store_faults history volume volume_now of_make.NoMemory fewer less is = is
 
 -- where nothing else is in the way, want of memory is left, also as it is seen from an earlier state of the source
@@ -206,14 +197,14 @@ pub left_by :
     {A B : Type 0} (tells : Type 0) (files between_files : Files) (project : ProjectFacts) (faults : A → ℕ) (before between now : A)
     (store_faults : B → ℕ) (volume volume_now : B) (made : Result Report MakeEnd) (end : MakeEnd) →
     between_files ≡ files → faults before ≤ faults between → made ≡ Err end →
-    (tells → IsTrue (is_built project) → IsOk (picture_of between_files project) → ¬ HasRisen (faults between) (faults now) →
+    (tells → IsOk (package_files between_files project) → ¬ HasRisen (faults between) (faults now) →
     ¬ HasRisen (store_faults volume) (store_faults volume_now) → IfErr made IsOutOfMemory) →
-    tells → IsTrue (is_built project) → IsOk (picture_of files project) → ¬ HasRisen (faults before) (faults now) →
+    tells → IsOk (package_files files project) → ¬ HasRisen (faults before) (faults now) →
     ¬ HasRisen (store_faults volume) (store_faults volume_now) → IsOutOfMemory end
-left_by tells files between_files project faults before between now store_faults volume volume_now made end same less was complete told on ok calm still =
-    let seen : IsOk (picture_of between_files project) = subst (λ files. IsOk (picture_of files project)) (sym same) ok in
+left_by tells files between_files project faults before between now store_faults volume volume_now made end same less was complete told ok calm still =
+    let seen : IsOk (package_files between_files project) = subst (λ files. IsOk (package_files files project)) (sym same) ok in
     let calmer : ¬ HasRisen (faults between) (faults now) = λ risen. calm (omega (arith, risen, less)) in
-    cause_of made end IsOutOfMemory was (complete told on seen calmer still)
+    IfErr-at_err IsOutOfMemory was (complete told seen calmer still)
 
 module _ {A B C : Type 0} (tells : Type 0) (files : Files) (words : List (List ℕ)) (absent faults : A → ℕ) (before now : A)
     (store_tells : Type 0) (reads : B → FileId → List ℕ) (put : B → FileId → ℕ) (store_faults : B → ℕ) (history : B → History FileId) (volume volume_now : B) (sink_faults : C → ℕ) (out out_now : C) where
@@ -236,9 +227,35 @@ module _ {A B C : Type 0} (tells : Type 0) (files : Files) (words : List (List �
         (λ told. checked_ends files words is.asked (of_plan.Project refusal) is.accepted (is.cause other.0 told) ∙ ap Err other.1, is.unwritten)
   ]
 
-  stop_built : (end : MakeEnd) → (end ≡ of_make.Unbuilt → ⊥) → (is : MakeStops end) → tells → checked files words ≡ Ok is.project
-  stop_built end other is told =
-      checked_built files words is.asked is.project is.accepted (is.told told) (built_unless (is_built is.project) end other is.off)
+  checked_stop : (end : MakeEnd) → (is : MakeStops end) → tells → checked files words ≡ Ok is.project
+  checked_stop end is told = checked_by files words is.asked is.project is.accepted (is.told told)
+
+  make_stop : (end : MakeEnd) → MakeStops end → Causes (stopped_status (stop.Make end))
+  make_stop (of_make.Picture (of_picture.Frame (of_frame.Missing name))) is = (
+    is.cause.1,
+    inr (record {
+      project = is.project;
+      rules = is.rules;
+      told = checked_stop (of_make.Picture (of_picture.Frame (of_frame.Missing name))) is;
+      missing = is.cause.0;
+    }),
+  )
+  make_stop (of_make.Picture (of_picture.Frame (of_frame.Bad frame why))) is = record {
+    project = is.project;
+    rules = is.rules;
+    told = checked_stop (of_make.Picture (of_picture.Frame (of_frame.Bad frame why))) is;
+    bad = is.cause;
+  }
+  make_stop (of_make.Picture (of_picture.Frame of_frame.SourceFault)) is = is.cause
+  make_stop (of_make.Picture (of_picture.Frame of_frame.NoMemory)) is = tt
+  make_stop (of_make.Picture (of_picture.Track of_track.StoreFault)) is = is.cause
+  make_stop (of_make.Picture (of_picture.Track of_track.NoMemory)) is = tt
+  make_stop (of_make.Picture of_picture.NoMemory) is = tt
+  make_stop (of_make.Sound (of_sound.Sound of_mix.SourceFault)) is = is.cause.1
+  make_stop (of_make.Sound (of_sound.Sound of_mix.NoMemory)) is = tt
+  make_stop (of_make.Sound (of_sound.Track of_track.StoreFault)) is = is.cause.1
+  make_stop (of_make.Sound (of_sound.Track of_track.NoMemory)) is = tt
+  make_stop of_make.NoMemory is = tt
 
   pub stop_cause : (stopped : Stopped) → Stops stopped → Causes (stopped_status stopped)
   stop_cause stop.Usage is = is
@@ -255,16 +272,7 @@ module _ {A B C : Type 0} (tells : Type 0) (files : Files) (words : List (List �
   stop_cause (stop.Plan (of_plan.Plan (short.InputShort asset size need))) is =
       (is.cause.0, (λ told. checked_ends files words is.asked (of_plan.Plan (short.InputShort asset size need)) is.accepted (is.cause.1 told), is.unwritten))
   stop_cause (stop.Plan (of_plan.Plan short.NoMemory)) is = tt
-  stop_cause (stop.Make (of_make.Frame (of_frame.Missing name))) is =
-      (is.cause.1, inr (record { project = is.project; rules = is.rules; told = stop_built (of_make.Frame (of_frame.Missing name)) (λ e. cc) is; missing = is.cause.0 }))
-  stop_cause (stop.Make (of_make.Frame (of_frame.Bad frame why))) is =
-      record { project = is.project; rules = is.rules; told = stop_built (of_make.Frame (of_frame.Bad frame why)) (λ e. cc) is; bad = is.cause }
-  stop_cause (stop.Make (of_make.Frame of_frame.SourceFault)) is = is.cause
-  stop_cause (stop.Make (of_make.Frame of_frame.NoMemory)) is = tt
-  stop_cause (stop.Make of_make.StoreFault) is = is.cause
-  stop_cause (stop.Make of_make.Unbuilt) is =
-      (λ told. checked_unbuilt files words is.asked is.project is.accepted (is.told told) is.cause.0, is.cause.1)
-  stop_cause (stop.Make of_make.NoMemory) is = tt
+  stop_cause (stop.Make end) is = make_stop end is
   stop_cause (stop.Read end) is = absurd is
   stop_cause (stop.Frame end) is = absurd is
   stop_cause (stop.NoSuchFrame frame frames) is = absurd is
@@ -300,11 +308,7 @@ module _ {A B C : Type 0} (tells : Type 0) (files : Files) (words : List (List �
   stop_told (stop.Plan (of_plan.Plan (short.InputShort asset size need))) wanted told is wants =
       early_told _ _ wanted refl (checked_ends files words is.asked (of_plan.Plan (short.InputShort asset size need)) is.accepted (is.cause.1 told)) wants
   stop_told (stop.Plan (of_plan.Plan short.NoMemory)) wanted told is wants = inr (inr refl)
-  stop_told (stop.Make (of_make.Frame end)) wanted told is wants = absurd (cc (stop_built (of_make.Frame end) (λ e. cc) is told, wants))
-  stop_told (stop.Make of_make.StoreFault) wanted told is wants = absurd (cc (stop_built of_make.StoreFault (λ e. cc) is told, wants))
-  stop_told (stop.Make of_make.Unbuilt) wanted told is wants =
-      early_told Unbuilt Unbuilt wanted refl (checked_unbuilt files words is.asked is.project is.accepted (is.told told) is.cause.0) wants
-  stop_told (stop.Make of_make.NoMemory) wanted told is wants = inr (inr refl)
+  stop_told (stop.Make end) wanted told is wants = absurd (cc (checked_stop end is told, wants))
   stop_told (stop.Read end) wanted told is wants = absurd is
   stop_told (stop.Frame end) wanted told is wants = absurd is
   stop_told (stop.NoSuchFrame frame frames) wanted told is wants = absurd is
@@ -320,18 +324,26 @@ module _ {A B C : Type 0} (tells : Type 0) (files : Files) (words : List (List �
     | inr other ↦ early_left _ _ (is other.0) some
   ]
 
+  picture_memory : (end : PictureEnd) → IsOutOfMemory (of_make.Picture end) → stopped_status (stop.Make (of_make.Picture end)) ≡ NoMemory
+  picture_memory end (inl is) = ap (λ end. stopped_status (stop.Make (of_make.Picture end))) is
+  picture_memory end (inr (inl is)) = ap (λ end. stopped_status (stop.Make (of_make.Picture end))) is
+  picture_memory end (inr (inr is)) = ap (λ end. stopped_status (stop.Make (of_make.Picture end))) is
+
+  sound_memory : (end : SoundEnd) → IsOutOfMemory (of_make.Sound end) → stopped_status (stop.Make (of_make.Sound end)) ≡ NoMemory
+  sound_memory end (inl is) = ap (λ end. stopped_status (stop.Make (of_make.Sound end))) is
+  sound_memory end (inr is) = ap (λ end. stopped_status (stop.Make (of_make.Sound end))) is
+
   memory_left : (end : MakeEnd) → IsOutOfMemory end → stopped_status (stop.Make end) ≡ NoMemory
-  memory_left end (inl is) = ap (λ end. stopped_status (stop.Make end)) is
-  memory_left end (inr is) = ap (λ end. stopped_status (stop.Make end)) is
+  memory_left (of_make.Picture end) is = picture_memory end is
+  memory_left (of_make.Sound end) is = sound_memory end is
+  memory_left of_make.NoMemory is = refl
 
   make_left :
-      (end : MakeEnd) → (end ≡ of_make.Unbuilt → ⊥) → (is : MakeStops end) → tells → IsSome (package_of files words) → ¬ HasRisen (faults before) (faults now) →
+      (end : MakeEnd) → (is : MakeStops end) → tells → IsSome (package_of files words) → ¬ HasRisen (faults before) (faults now) →
       ¬ HasRisen (store_faults volume) (store_faults volume_now) → stopped_status (stop.Make end) ≡ NoMemory
-  make_left end other is told some calm still =
-      let whole = stop_built end other is told in
-      let same : package_of files words ≡ result_ok (picture_of files is.project) = rw whole refl in
-      let on = built_unless (is_built is.project) end other is.off in
-      memory_left end (is.left told on (ok_where (picture_of files is.project) (subst (λ picture. IsSome picture) same some)) calm still)
+  make_left end is told some calm still =
+      let same : package_of files words ≡ result_ok (package_files files is.project) = rw (checked_stop end is told) refl in
+      memory_left end (is.left told (ok_where (package_files files is.project) (subst (λ made. IsSome made) same some)) calm still)
 
   pub stop_left :
       (stopped : Stopped) → tells → IsSome (package_of files words) → ¬ HasRisen (faults before) (faults now) → ¬ HasRisen (store_faults volume) (store_faults volume_now) →
@@ -346,11 +358,7 @@ module _ {A B C : Type 0} (tells : Type 0) (files : Files) (words : List (List �
   stop_left (stop.Plan (of_plan.Plan (short.InputShort asset size need))) told some calm still is =
       early_left _ _ (checked_ends files words is.asked (of_plan.Plan (short.InputShort asset size need)) is.accepted (is.cause.1 told)) some
   stop_left (stop.Plan (of_plan.Plan short.NoMemory)) told some calm still is = refl
-  stop_left (stop.Make (of_make.Frame end)) told some calm still is = make_left (of_make.Frame end) (λ e. cc) is told some calm still
-  stop_left (stop.Make of_make.StoreFault) told some calm still is = absurd (still is.cause)
-  stop_left (stop.Make of_make.Unbuilt) told some calm still is =
-      early_left Unbuilt Unbuilt (checked_unbuilt files words is.asked is.project is.accepted (is.told told) is.cause.0) some
-  stop_left (stop.Make of_make.NoMemory) told some calm still is = refl
+  stop_left (stop.Make end) told some calm still is = make_left end is told some calm still
   stop_left (stop.Read end) told some calm still is = absurd is
   stop_left (stop.Frame end) told some calm still is = absurd is
   stop_left (stop.NoSuchFrame frame frames) told some calm still is = absurd is
@@ -372,12 +380,12 @@ module _ {A B C : Type 0} (tells : Type 0) (files : Files) (words : List (List �
       answered result (stopped_status stopped) answer risen (stop_cause stopped stops)
 
   pub outcome_told :
-      {T : Type 0} (volume_tells : Type 0) (picture : List ℕ) (taken_before taken_now : ℕ) (result wanted : Status) (outcome : Result T Stopped) → tells → checked files words ≡ Err wanted →
-      Answers result (status_of outcome) → OnOk outcome (IsPackage volume_tells files words picture taken_before taken_now) → IfErr outcome Stops →
+      {T : Type 0} (volume_tells : Type 0) (reads_now : FileId → List ℕ) (taken_before taken_now : ℕ) (result wanted : Status) (outcome : Result T Stopped) → tells → checked files words ≡ Err wanted →
+      Answers result (status_of outcome) → OnOk outcome (IsPackage volume_tells files words reads_now taken_before taken_now) → IfErr outcome Stops →
       (result ≡ SourceFault) ⊎ Answers result wanted
-  outcome_told volume_tells picture taken_before taken_now result wanted (Ok x) told wants answer made stops =
-      absurd (package_told volume_tells files words picture taken_before taken_now wanted made wants)
-  outcome_told volume_tells picture taken_before taken_now result wanted (Err stopped) told wants answer made stops =
+  outcome_told volume_tells reads_now taken_before taken_now result wanted (Ok x) told wants answer made stops =
+      absurd (package_told volume_tells files words reads_now taken_before taken_now wanted made wants)
+  outcome_told volume_tells reads_now taken_before taken_now result wanted (Err stopped) told wants answer made stops =
       told_answer result (stopped_status stopped) wanted answer
       (stop_told stopped wanted told stops wants)
 

@@ -4,7 +4,7 @@ use Rattle.std.specs.Prelude.{IfOk, Result}
 use Rattle.dcp_commands.specs.Line.{IsLine, IsPrinted}
 use Rattle.dcp_commands.specs.declared.stopped.Stopped.{Stopped}
 use Rattle.dcp_commands.specs.declared.status.Status.{Status}
-use Rattle.dcp_commands.specs.declared.status.Status.TheVariants.{Done, Usage, ProjectRefused, InputMissing, InputShort, SourceFault, StoreFault, SinkFault, NoMemory, BadFrame, NoSuchFrame, BadStream, InputTooLong, Unbuilt}
+use Rattle.dcp_commands.specs.declared.status.Status.TheVariants.{Done, Usage, ProjectRefused, InputMissing, InputShort, SourceFault, StoreFault, SinkFault, NoMemory, BadFrame, NoSuchFrame, BadStream, InputTooLong}
 
 line_where : {P Q : List ℕ → Type 0} (status : Status) (line : List ℕ) → ((text : List ℕ) → P text → Q text) → IsLine P status line → IsLine Q status line
 line_where status line more is = record { done = is.done; text = λ done. more is.done (is.text done); is = is.is }
@@ -24,7 +24,6 @@ printed_where (BadFrame frame why) before now more p = (p.0, line_where (BadFram
 printed_where (NoSuchFrame frame frames) before now more p = (p.0, line_where (NoSuchFrame frame frames) p.0 more p.1, p.2)
 printed_where (BadStream refusal) before now more p = (p.0, line_where (BadStream refusal) p.0 more p.1, p.2)
 printed_where (InputTooLong size) before now more p = (p.0, line_where (InputTooLong size) p.0 more p.1, p.2)
-printed_where Unbuilt before now more p = (p.0, line_where Unbuilt p.0 more p.1, p.2)
 
 -- what was printed of an outcome
 pub printed_of :

@@ -13,7 +13,7 @@ use Rattle.dcp_commands.specs.Run.{IsCause, IsRunText, plan_answer, run_answer, 
 use Rattle.dcp_commands.specs.Status.{Answers}
 use Rattle.dcp_commands.specs.Words.{FrameWords, frame_words, read_words}
 use Rattle.dcp_commands.specs.declared.status.Status.{Status}
-use Rattle.dcp_commands.specs.declared.status.Status.TheVariants.{Done, Usage, ProjectRefused, InputMissing, InputShort, SourceFault, StoreFault, SinkFault, NoMemory, BadFrame, NoSuchFrame, BadStream, InputTooLong, Unbuilt}
+use Rattle.dcp_commands.specs.declared.status.Status.TheVariants.{Done, Usage, ProjectRefused, InputMissing, InputShort, SourceFault, StoreFault, SinkFault, NoMemory, BadFrame, NoSuchFrame, BadStream, InputTooLong}
 
 -- ---- what the words and the files lead to
 
@@ -108,7 +108,6 @@ module _ {A C : Type 0} (tells : Type 0) (files : Files) (words : List (List ℕ
   read_causes name asked StoreFault is = absurd is
   read_causes name asked (BadFrame frame why) is = absurd is
   read_causes name asked (NoSuchFrame frame frames) is = absurd is
-  read_causes name asked Unbuilt is = absurd is
 
   frame_ends :
       (asked : FrameWords) → read_words words ≡ None → frame_words words ≡ Some asked → (status : Status) →
@@ -132,7 +131,6 @@ module _ {A C : Type 0} (tells : Type 0) (files : Files) (words : List (List ℕ
   frame_causes asked unread named StoreFault is = absurd is
   frame_causes asked unread named (BadStream refusal) is = absurd is
   frame_causes asked unread named (InputTooLong size) is = absurd is
-  frame_causes asked unread named Unbuilt is = absurd is
 
   plan_ends : read_words words ≡ None → frame_words words ≡ None → (status : Status) → (tells → checked_plan files words ≡ Err status) → tells → run_answer files words ≡ Err status
   plan_ends unread unframed status told tell = plans files words unread unframed ∙ ap plan_answer (told tell)
@@ -153,4 +151,3 @@ module _ {A C : Type 0} (tells : Type 0) (files : Files) (words : List (List ℕ
   plan_causes unread unframed StoreFault is = absurd is
   plan_causes unread unframed (BadFrame frame why) is = absurd is
   plan_causes unread unframed (NoSuchFrame frame frames) is = absurd is
-  plan_causes unread unframed Unbuilt is = absurd is

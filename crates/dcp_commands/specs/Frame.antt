@@ -12,16 +12,16 @@ use Rattle.frame_values.specs.Causes.{IsFault, IsFrameValue, IsInFile}
 use Rattle.frame_values.specs.Shown.{Shown, cell_shown}
 use Rattle.frame_values.specs.declared.ends.BadWhy.{BadWhy}
 use Rattle.frame_values.specs.declared.ends.CellEnd.{CellEnd}
-use Rattle.make_engine.specs.Causes.{IsSingleCause}
-use Rattle.make_engine.specs.Ends.{frame_end}
-use Rattle.make_engine.specs.declared.outcome.FrameEnd.{FrameEnd}
+use Rattle.picture_track.specs.Causes.{IsSingleCause}
+use Rattle.picture_track.specs.Ends.{frame_end}
+use Rattle.picture_track.specs.declared.outcome.FrameEnd.{FrameEnd}
 use Rattle.mast_world.specs.Content.{Files}
 use Rattle.mast_world.specs.Count.{HasRisen}
 use Rattle.dcp_commands.specs.Status.{frame_status, plan_status}
 use Rattle.dcp_commands.specs.declared.stopped.Stopped.{Stopped}
 use Rattle.dcp_commands.specs.declared.stopped.Stopped.TheVariants as stop
 use Rattle.dcp_commands.specs.declared.status.Status.{Status}
-use Rattle.dcp_commands.specs.declared.status.Status.TheVariants.{Done, Usage, ProjectRefused, InputMissing, InputShort, SourceFault, StoreFault, SinkFault, NoMemory, BadFrame, NoSuchFrame, BadStream, InputTooLong, Unbuilt}
+use Rattle.dcp_commands.specs.declared.status.Status.TheVariants.{Done, Usage, ProjectRefused, InputMissing, InputShort, SourceFault, StoreFault, SinkFault, NoMemory, BadFrame, NoSuchFrame, BadStream, InputTooLong}
 
 -- ---- what the files lead to
 
@@ -105,4 +105,3 @@ module _ {A : Type 0} (tells : Type 0) (files : Files) (name : List ℕ) (f : �
   IsCause sink_faults out out_now StoreFault = ⊥
   IsCause sink_faults out out_now (BadStream refusal) = ⊥
   IsCause sink_faults out out_now (InputTooLong size) = ⊥
-  IsCause sink_faults out out_now Unbuilt = ⊥

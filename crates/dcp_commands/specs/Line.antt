@@ -6,7 +6,7 @@ use Rattle.frame_values.specs.declared.ends.BadWhy.{BadWhy}
 use Rattle.frame_values.specs.declared.ends.BadWhy.TheVariants.{Header, Short, Stream, Size, Limit}
 use Rattle.stream_inspect.specs.Texts.{refusal_line as stream_line}
 use Rattle.dcp_commands.specs.declared.status.Status.{Status}
-use Rattle.dcp_commands.specs.declared.status.Status.TheVariants.{Done, Usage, ProjectRefused, InputMissing, InputShort, SourceFault, StoreFault, SinkFault, NoMemory, BadFrame, NoSuchFrame, BadStream, InputTooLong, Unbuilt}
+use Rattle.dcp_commands.specs.declared.status.Status.TheVariants.{Done, Usage, ProjectRefused, InputMissing, InputShort, SourceFault, StoreFault, SinkFault, NoMemory, BadFrame, NoSuchFrame, BadStream, InputTooLong}
 
 -- two numbers, with a space between them
 abbrev pub number_pair : ℕ → ℕ → List ℕ
@@ -39,7 +39,6 @@ status_text done (BadFrame frame why) = codes "bad frame: " ++ (decimal frame ++
 status_text done (NoSuchFrame frame frames) = codes "no such frame: " ++ (decimal frame ++ (codes " of " ++ decimal frames))
 status_text done (BadStream refusal) = codes "bad stream: " ++ stream_line refusal
 status_text done (InputTooLong size) = codes "input too long: " ++ decimal size
-status_text done Unbuilt = codes "unbuilt"
 
 -- what is printed under a status: what the command makes as it is, and of the others their text and a line feed
 abbrev pub line_of : List ℕ → Status → List ℕ
@@ -73,4 +72,3 @@ exit_code (BadFrame frame why) = 12
 exit_code (NoSuchFrame frame frames) = 13
 exit_code (BadStream refusal) = 14
 exit_code (InputTooLong size) = 15
-exit_code Unbuilt = 17

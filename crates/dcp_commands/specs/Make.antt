@@ -1,6 +1,7 @@
 -- What `make` makes, and why it ends so, status by status.
-use Rattle.std.specs.Prelude.{◌≡◌, ◌⊎◌, ℕ, ◌+◌, ◌<◌, List, length, if◌then◌else◌, IsTrue, IsFalse, IsOk, Option, Some, None, option_map, option_and_then, Result, Ok, Err, ⊤}
+use Rattle.std.specs.Prelude.{◌≡◌, ◌⊎◌, ℕ, ◌+◌, ◌<◌, List, length, IsOk, Option, Some, None, option_map, option_and_then, Result, Ok, Err, ⊤}
 use Rattle.std.specs.Result.{result_ok}
+use Rattle.disk_terms.specs.Disk.{History, IsImage}
 use Rattle.film_project.specs.Facts.{ProjectFacts}
 use Rattle.film_project.specs.Rules.{IsProject}
 use Rattle.frame_values.specs.Causes.{AreEncodedFrames}
@@ -8,30 +9,28 @@ use Rattle.frame_values.specs.declared.ends.BadWhy.{BadWhy}
 use Rattle.film_inputs.specs.Causes.{IsInputName, IsPlanCause}
 use Rattle.film_inputs.specs.Inputs.{planned}
 use Rattle.film_inputs.specs.declared.ends.PlanEnd.{PlanEnd}
-use Rattle.make_engine.specs.Causes.{IsBadFrame, IsMakeCause, IsMissingFrame, IsOutOfMemory}
-use Rattle.make_engine.specs.Engine.{HasFrameItems}
-use Rattle.make_engine.specs.Package.{frames_size, is_built, picture_of}
+use Rattle.make_engine.specs.Causes.{IsMakeCause, IsOutOfMemory}
+use Rattle.make_engine.specs.Package.{AreTracks, ArePut, HasFiles, HasSound, PackageFiles, inputs_size, package_files}
 use Rattle.make_engine.specs.declared.outcome.MakeEnd.{MakeEnd}
-use Rattle.make_engine.specs.declared.outcome.MakeEnd.TheVariants as of_make
-use Rattle.disk_terms.specs.Disk.{History}
 use Rattle.mast_world.specs.Changes.{IsUnwritten}
 use Rattle.mast_world.specs.Content.{Files}
 use Rattle.mast_world.specs.Count.{HasRisen, counted}
 use Rattle.mast_world.specs.declared.volume.FileId.{FileId}
+use Rattle.mast_world.specs.declared.volume.FileId.TheVariants as of
+use Rattle.picture_track.specs.Causes.{IsBadFrame, IsMissingFrame}
 use Rattle.dcp_commands.specs.Line.{done_text}
 use Rattle.dcp_commands.specs.Status.{plan_status}
 use Rattle.dcp_commands.specs.Words.{MakeWords, make_words}
 use Rattle.dcp_commands.specs.declared.stopped.Stopped.{Stopped}
 use Rattle.dcp_commands.specs.declared.stopped.Stopped.TheVariants as stop
 use Rattle.dcp_commands.specs.declared.status.Status.{Status}
-use Rattle.dcp_commands.specs.declared.status.Status.TheVariants.{Done, Usage, ProjectRefused, InputMissing, InputShort, SourceFault, StoreFault, SinkFault, NoMemory, BadFrame, NoSuchFrame, BadStream, InputTooLong, Unbuilt}
+use Rattle.dcp_commands.specs.declared.status.Status.TheVariants.{Done, Usage, ProjectRefused, InputMissing, InputShort, SourceFault, StoreFault, SinkFault, NoMemory, BadFrame, NoSuchFrame, BadStream, InputTooLong}
 
 -- ---- what the words and the files lead to
 
--- what isn't built yet is told behind the inputs
 abbrev pub with_plan : Result ProjectFacts PlanEnd → Result ProjectFacts Status
 with_plan (Err end) = Err (plan_status end)
-with_plan (Ok project) = if is_built project then Ok project else Err Unbuilt
+with_plan (Ok project) = Ok project
 
 abbrev pub with_words : Files → Option MakeWords → Result ProjectFacts Status
 with_words files None = Err Usage
@@ -48,9 +47,9 @@ of_checked (Err status) = None
 abbrev pub project_of : Files → List (List ℕ) → Option ProjectFacts
 project_of files words = of_checked (checked files words)
 
--- the picture file of the package that the words ask for
-abbrev pub package_of : Files → List (List ℕ) → Option (List ℕ)
-package_of files words = option_and_then (λ project. result_ok (picture_of files project)) (project_of files words)
+-- the package that the words ask for
+abbrev pub package_of : Files → List (List ℕ) → Option PackageFiles
+package_of files words = option_and_then (λ project. result_ok (package_files files project)) (project_of files words)
 
 abbrev pub frames_of : Files → List (List ℕ) → Option ℕ
 frames_of files words = option_map (λ project. project.frames) (project_of files words)
@@ -59,18 +58,18 @@ frames_of files words = option_map (λ project. project.frames) (project_of file
 abbrev pub text_of : Files → List (List ℕ) → Option (List ℕ)
 text_of files words = option_and_then (λ asked. files asked.project) (make_words words)
 
--- how many bytes of input the package has: the project file and those of the frames
+-- how many bytes of input the package has: the project file, and those of frames and sound
 abbrev pub input_size : Files → List (List ℕ) → Option ℕ
 input_size files words =
-    option_and_then (λ text. option_map (λ n. length text + n) (option_and_then (λ project. result_ok (frames_size files project)) (project_of files words))) (text_of files words)
+    option_and_then (λ text. option_map (λ n. length text + n) (option_and_then (λ project. result_ok (inputs_size files project)) (project_of files words))) (text_of files words)
 
 -- the package was made, and all its input was read
-pub record IsPackage (volume_tells : Type 0) (files : Files) (words : List (List ℕ)) (picture : List ℕ) (taken_before taken_now : ℕ) : Type 0 where
-  pub made : List ℕ
+pub record IsPackage (volume_tells : Type 0) (files : Files) (words : List (List ℕ)) (reads : FileId → List ℕ) (taken_before taken_now : ℕ) : Type 0 where
+  pub made : PackageFiles
   pub size : ℕ
   pub is : package_of files words ≡ Some made
   pub read : input_size files words ≡ Some size
-  pub written : volume_tells → picture ≡ made
+  pub written : volume_tells → HasFiles made reads
   pub taken : taken_now ≡ counted taken_before size
 
 -- each frame that was encoded is read back to its quantised coefficients down to the bit-planes that its cut keeps, within the limits
@@ -79,11 +78,24 @@ pub record HasEncodedFrames (files : Files) (words : List (List ℕ)) : Type 0 w
   pub is : project_of files words ≡ Some project
   pub encoded : AreEncodedFrames files project
 
--- whatever the source tells, the picture file is the items of a project's frames, each codestream within its limits
-pub record IsPictureFile (picture : List ℕ) : Type 0 where
+-- an image has the project's files as reads give them
+pub record HasSameFiles (project : ProjectFacts) (reads image : FileId → List ℕ) : Type 0 where
+  pub picture : image (of.Picture 1) ≡ reads (of.Picture 1)
+  pub sound : HasSound project → image (of.Sound 1) ≡ reads (of.Sound 1)
+
+-- whatever the source tells, the folder has the tracks of a project, that of the words where the source tells; so many
+-- bytes were put into them, and each image that a crash may leave has them
+pub record IsFolder (tells : Type 0) (files : Files) (words : List (List ℕ)) (reads : FileId → List ℕ) (put_before put_now : FileId → ℕ) (history : History FileId) : Type 0 where
   pub project : ProjectFacts
   pub rules : IsProject project
-  pub items : HasFrameItems project project.frames picture
+  pub told : tells → project_of files words ≡ Some project
+  pub tracks : AreTracks project reads
+  pub put : ArePut project reads put_before put_now
+  pub on_disk : (image : FileId → List ℕ) → IsImage history.newest image → HasSameFiles project reads image
+
+-- the files that `make` may touch
+abbrev pub IsTrack : FileId → Type 0
+IsTrack file = (file ≡ of.Picture 1) ⊎ (file ≡ of.Sound 1)
 
 -- the text of `Done`: that of the project's frames, of which none was kept
 pub record IsMadeText (tells : Type 0) (files : Files) (words : List (List ℕ)) (text : List ℕ) : Type 0 where
@@ -139,7 +151,6 @@ module _ {A B : Type 0} (tells : Type 0) (files : Files) (words : List (List ℕ
   IsCause sink_faults out out_now (NoSuchFrame frame frames) = ⊥
   IsCause sink_faults out out_now (BadStream refusal) = ⊥
   IsCause sink_faults out out_now (InputTooLong size) = ⊥
-  IsCause sink_faults out out_now Unbuilt = IsEarly Unbuilt
 
   -- the plan of the words' project ended so
   pub record IsPlanStop (end : PlanEnd) : Type 0 where
@@ -155,10 +166,9 @@ module _ {A B : Type 0} (tells : Type 0) (files : Files) (words : List (List ℕ
     pub accepted : make_words words ≡ Some asked
     pub rules : IsProject project
     pub told : tells → planned files asked.project ≡ Ok project
-    pub off : IsFalse (is_built project) → end ≡ of_make.Unbuilt
     pub cause : IsMakeCause tells files project absent faults before now store_tells reads put store_faults history volume volume_now end
-    pub left : tells → IsTrue (is_built project) → IsOk (picture_of files project)
-        → ¬ HasRisen (faults before) (faults now) → ¬ HasRisen (store_faults volume) (store_faults volume_now) → IsOutOfMemory end
+    pub left : tells → IsOk (package_files files project) → ¬ HasRisen (faults before) (faults now)
+        → ¬ HasRisen (store_faults volume) (store_faults volume_now) → IsOutOfMemory end
 
   -- why there is no text of `Done`
   abbrev pub IsStop : Stopped → Type 0

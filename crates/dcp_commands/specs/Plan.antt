@@ -16,7 +16,7 @@ use Rattle.film_inputs.specs.declared.ends.PlanEnd.{PlanEnd}
 use Rattle.dcp_commands.specs.declared.stopped.Stopped.{Stopped}
 use Rattle.dcp_commands.specs.declared.stopped.Stopped.TheVariants as stop
 use Rattle.dcp_commands.specs.declared.status.Status.{Status}
-use Rattle.dcp_commands.specs.declared.status.Status.TheVariants.{Done, Usage, ProjectRefused, InputMissing, InputShort, SourceFault, StoreFault, SinkFault, NoMemory, BadFrame, NoSuchFrame, BadStream, InputTooLong, Unbuilt}
+use Rattle.dcp_commands.specs.declared.status.Status.TheVariants.{Done, Usage, ProjectRefused, InputMissing, InputShort, SourceFault, StoreFault, SinkFault, NoMemory, BadFrame, NoSuchFrame, BadStream, InputTooLong}
 
 abbrev pub size_text : ProjectFacts → List ℕ
 size_text project =
@@ -94,4 +94,3 @@ module _ {A : Type 0} (tells : Type 0) (files : Files) (words : List (List ℕ))
   IsCause sink_faults out out_now (NoSuchFrame frame frames) = ⊥
   IsCause sink_faults out out_now (BadStream refusal) = ⊥
   IsCause sink_faults out out_now (InputTooLong size) = ⊥
-  IsCause sink_faults out out_now Unbuilt = ⊥

@@ -11,7 +11,7 @@ use Rattle.dcp_commands.specs.Status.{read_status}
 use Rattle.dcp_commands.specs.declared.stopped.Stopped.{Stopped}
 use Rattle.dcp_commands.specs.declared.stopped.Stopped.TheVariants as stop
 use Rattle.dcp_commands.specs.declared.status.Status.{Status}
-use Rattle.dcp_commands.specs.declared.status.Status.TheVariants.{Done, Usage, ProjectRefused, InputMissing, InputShort, SourceFault, StoreFault, SinkFault, NoMemory, BadFrame, NoSuchFrame, BadStream, InputTooLong, Unbuilt}
+use Rattle.dcp_commands.specs.declared.status.Status.TheVariants.{Done, Usage, ProjectRefused, InputMissing, InputShort, SourceFault, StoreFault, SinkFault, NoMemory, BadFrame, NoSuchFrame, BadStream, InputTooLong}
 
 -- its lines
 abbrev pub read_text : Inspected → List ℕ
@@ -61,4 +61,3 @@ module _ {A : Type 0} (tells : Type 0) (files : Files) (name : List ℕ) (absent
   IsCause sink_faults out out_now StoreFault = ⊥
   IsCause sink_faults out out_now (BadFrame frame why) = ⊥
   IsCause sink_faults out out_now (NoSuchFrame frame frames) = ⊥
-  IsCause sink_faults out out_now Unbuilt = ⊥

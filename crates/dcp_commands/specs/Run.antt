@@ -14,7 +14,7 @@ use Rattle.dcp_commands.specs.Plan.{checked_plan, plan_text}
 use Rattle.dcp_commands.specs.Read.{read_answer, read_text}
 use Rattle.dcp_commands.specs.Words.{FrameWords, frame_words, plan_words, read_words}
 use Rattle.dcp_commands.specs.declared.status.Status.{Status}
-use Rattle.dcp_commands.specs.declared.status.Status.TheVariants.{Done, Usage, ProjectRefused, InputMissing, InputShort, SourceFault, StoreFault, SinkFault, NoMemory, BadFrame, NoSuchFrame, BadStream, InputTooLong, Unbuilt}
+use Rattle.dcp_commands.specs.declared.status.Status.TheVariants.{Done, Usage, ProjectRefused, InputMissing, InputShort, SourceFault, StoreFault, SinkFault, NoMemory, BadFrame, NoSuchFrame, BadStream, InputTooLong}
 
 abbrev pub plan_answer : Result ProjectFacts Status → Result (List ℕ) Status
 plan_answer (Ok project) = Ok (plan_text project)
@@ -94,4 +94,3 @@ module _ {A : Type 0} (tells : Type 0) (files : Files) (words : List (List ℕ))
   IsCause sink_faults out out_now (BadStream refusal) = IsSome (read_words words) × IsRefusalOf refusal × IsEnd (BadStream refusal)
   IsCause sink_faults out out_now (InputTooLong size) = IsSome (read_words words) × (greatest_size < size) × IsEnd (InputTooLong size)
   IsCause sink_faults out out_now StoreFault = ⊥
-  IsCause sink_faults out out_now Unbuilt = ⊥

@@ -8,16 +8,24 @@ use Rattle.film_plan.specs.declared.refusal.PlanRefusal.{PlanRefusal}
 use Rattle.film_plan.specs.declared.refusal.PlanRefusal.TheVariants as short
 use Rattle.film_project.specs.declared.refusal.ProjectRefusal.{ProjectRefusal}
 use Rattle.film_project.specs.declared.refusal.ProjectRefusal.TheVariants as project
-use Rattle.make_engine.specs.declared.outcome.FrameEnd.{FrameEnd}
-use Rattle.make_engine.specs.declared.outcome.FrameEnd.TheVariants as of_frame
 use Rattle.make_engine.specs.declared.outcome.MakeEnd.{MakeEnd}
 use Rattle.make_engine.specs.declared.outcome.MakeEnd.TheVariants as of_make
+use Rattle.pcm_mix.specs.declared.refusal.SoundRefusal.{SoundRefusal}
+use Rattle.pcm_mix.specs.declared.refusal.SoundRefusal.TheVariants as of_mix
+use Rattle.picture_track.specs.declared.outcome.FrameEnd.{FrameEnd}
+use Rattle.picture_track.specs.declared.outcome.FrameEnd.TheVariants as of_frame
+use Rattle.picture_track.specs.declared.outcome.PictureEnd.{PictureEnd}
+use Rattle.picture_track.specs.declared.outcome.PictureEnd.TheVariants as of_picture
+use Rattle.sound_track.specs.declared.end.SoundEnd.{SoundEnd}
+use Rattle.sound_track.specs.declared.end.SoundEnd.TheVariants as of_sound
 use Rattle.stream_inspect.specs.declared.ends.InspectEnd.{InspectEnd}
 use Rattle.stream_inspect.specs.declared.ends.InspectEnd.TheVariants as of_read
+use Rattle.track_file.specs.declared.end.TrackEnd.{TrackEnd}
+use Rattle.track_file.specs.declared.end.TrackEnd.TheVariants as of_track
 use Rattle.dcp_commands.specs.declared.stopped.Stopped.{Stopped}
 use Rattle.dcp_commands.specs.declared.stopped.Stopped.TheVariants as stop
 use Rattle.dcp_commands.specs.declared.status.Status.{Status}
-use Rattle.dcp_commands.specs.declared.status.Status.TheVariants.{Done, Usage, ProjectRefused, InputMissing, InputShort, SourceFault, StoreFault, SinkFault, NoMemory, BadFrame, NoSuchFrame, BadStream, InputTooLong, Unbuilt}
+use Rattle.dcp_commands.specs.declared.status.Status.TheVariants.{Done, Usage, ProjectRefused, InputMissing, InputShort, SourceFault, StoreFault, SinkFault, NoMemory, BadFrame, NoSuchFrame, BadStream, InputTooLong}
 
 abbrev pub input_status : InputEnd → Status
 input_status (input.Missing name) = InputMissing name
@@ -43,10 +51,26 @@ frame_status (of_frame.Bad frame why) = BadFrame frame why
 frame_status of_frame.SourceFault = SourceFault
 frame_status of_frame.NoMemory = NoMemory
 
+abbrev pub track_status : TrackEnd → Status
+track_status of_track.StoreFault = StoreFault
+track_status of_track.NoMemory = NoMemory
+
+abbrev pub picture_status : PictureEnd → Status
+picture_status (of_picture.Frame end) = frame_status end
+picture_status (of_picture.Track end) = track_status end
+picture_status of_picture.NoMemory = NoMemory
+
+abbrev pub mix_status : SoundRefusal → Status
+mix_status of_mix.SourceFault = SourceFault
+mix_status of_mix.NoMemory = NoMemory
+
+abbrev pub sound_status : SoundEnd → Status
+sound_status (of_sound.Sound refusal) = mix_status refusal
+sound_status (of_sound.Track end) = track_status end
+
 abbrev pub make_status : MakeEnd → Status
-make_status (of_make.Frame end) = frame_status end
-make_status of_make.StoreFault = StoreFault
-make_status of_make.Unbuilt = Unbuilt
+make_status (of_make.Picture end) = picture_status end
+make_status (of_make.Sound end) = sound_status end
 make_status of_make.NoMemory = NoMemory
 
 abbrev pub read_status : InspectEnd → Status

@@ -10,9 +10,9 @@ use crate::line::print;
 use crate::status::Status;
 use crate::stopped::Stopped;
 use film_inputs::read_plan;
-use make_engine::make_frame;
 use mast_base::Bytes;
 use mast_world::{Sink, Source};
+use picture_track::make_frame;
 use std::alloc::Global;
 
 /// The codestream of a frame of the project in the file of this name.

@@ -114,7 +114,6 @@ fn status_text(alloc: Global, status: &Status, done: &[u8]) -> Result<Vec<u8>, N
             prefixed(alloc, b"bad stream: ", text.as_slice())
         }
         Status::InputTooLong { size } => too_long_text(alloc, *size),
-        Status::Unbuilt => Ok(b"unbuilt".to_vec(alloc)?),
     }
 }
 

@@ -1,11 +1,8 @@
-ghost use Rattle.std.specs.Prelude.{◌≡◌, ◌⊎◌, ℕ, List, None, Err, IfOk, IfErr, OnOk, IsSome, length, map, string_bytes};
-ghost use Rattle.disk_terms.specs.Disk.{IsImage, at_rest};
-ghost use Rattle.mast_world.specs.Changes.{IsSameBeside, IsSameSource, Only};
-ghost use Rattle.mast_world.specs.Count.{HasRisen, counted};
-ghost use Rattle.mast_world.specs.declared.volume.FileId.{FileId};
-ghost use Rattle.mast_world.specs.declared.volume.FileId.TheVariants.{Picture};
+ghost use Rattle.std.specs.Prelude.{◌≡◌, ◌⊎◌, None, Err, IfOk, IfErr, OnOk, IsSome, map, string_bytes};
+ghost use Rattle.mast_world.specs.Changes.{IsSameBeside, IsSameSource};
+ghost use Rattle.mast_world.specs.Count.{HasRisen};
 ghost use Rattle.dcp_commands.specs.Line.{IsPrinted};
-ghost use Rattle.dcp_commands.specs.Make.{HasEncodedFrames, IsCause, IsMadeText, IsPackage, IsPictureFile, IsStop, checked, package_of};
+ghost use Rattle.dcp_commands.specs.Make.{HasEncodedFrames, IsCause, IsFolder, IsMadeText, IsPackage, IsStop, IsTrack, checked, package_of};
 ghost use Rattle.dcp_commands.specs.Status.{Answers};
 ghost use Rattle.dcp_commands.specs.Words.{make_words};
 ghost use Rattle.dcp_commands.specs.declared.status.Status.{Status};
@@ -35,13 +32,10 @@ fn make_package<S: Source, V: Volume>(
     volume: &mut V,
 ) -> Result<Bytes, Stopped>
     ensures package { S.tells → OnOk result (IsPackage V.tells (S.file source.old) (map string_bytes words.now)
-        (V.reads volume.new (Picture 1)) (S.taken source.old) (S.taken source.new)) }
-    ensures put { V.tells
-        → OnOk result (V.put volume.new (Picture 1) ≡ counted (V.put volume.old (Picture 1)) (length (V.reads volume.new (Picture 1)))) }
-    ensures at_rest { V.tells
-        → OnOk result ((V.history volume.new).newest (Picture 1) ≡ at_rest (V.reads volume.new (Picture 1))) }
+        (V.reads volume.new) (S.taken source.old) (S.taken source.new)) }
+    ensures folder { V.tells → OnOk result (IsFolder S.tells (S.file source.old) (map string_bytes words.now)
+        (V.reads volume.new) (V.put volume.old) (V.put volume.new) (V.history volume.new)) }
     ensures encoded { S.tells → OnOk result (HasEncodedFrames (S.file source.old) (map string_bytes words.now)) }
-    ensures values { V.tells → OnOk result (IsPictureFile (V.reads volume.new (Picture 1))) }
     ensures text { IfOk result (IsMadeText S.tells (S.file source.old) (map string_bytes words.now)) }
     ensures source_untroubled { OnOk result (S.faults source.new ≡ S.faults source.old) }
     ensures volume_untroubled { OnOk result (V.faults volume.new ≡ V.faults volume.old) }
@@ -50,7 +44,7 @@ fn make_package<S: Source, V: Volume>(
     ensures ended { IfErr result (IsStop S.tells (S.file source.old) (map string_bytes words.now)
         S.absent S.faults source.old source.new V.tells V.reads V.put V.faults V.history volume.old volume.new) }
     ensures kept { IsSameSource S.file S.absent S.taken S.faults source.old source.new }
-    ensures beside { IsSameBeside (Only (Picture 1)) V.tells V.reads V.put V.faults V.history volume.old volume.new }
+    ensures beside { IsSameBeside IsTrack V.tells V.reads V.put V.faults V.history volume.old volume.new }
 {
     let Some(asked) = make_words(words) else {
         return Err(Stopped::Usage);
@@ -69,21 +63,19 @@ pub fn run_make<S: Source, V: Volume, O: Sink>(
     volume: &mut V,
     out: &mut O,
 ) -> Status
-    // On `Done` the package is that of the frame-by-frame definition, all input was read for it, and its picture file
-    // was put.
+    // On `Done` the package's files are those of the frame-by-frame definition, and all input was read for them.
     ensures package { S.tells → result ≡ Status.Done → IsPackage V.tells (S.file source.old) (map string_bytes words.now)
-        (V.reads volume.new (Picture 1)) (S.taken source.old) (S.taken source.new) }
-    ensures put { V.tells → result ≡ Status.Done
-        → V.put volume.new (Picture 1) ≡ counted (V.put volume.old (Picture 1)) (length (V.reads volume.new (Picture 1))) }
+        (V.reads volume.new) (S.taken source.old) (S.taken source.new) }
 
-    // Each image that a crash may leave then has this picture file.
-    ensures on_disk { V.tells → result ≡ Status.Done → (image : FileId → List ℕ)
-        → IsImage (V.history volume.new).newest image → image (Picture 1) ≡ V.reads volume.new (Picture 1) }
+    // Whatever the source tells, they are tracks of values within the project's limits, so much was put into them, and
+    // each image that a crash may leave has them.
+    ensures folder { V.tells → result ≡ Status.Done
+        → IsFolder S.tells (S.file source.old) (map string_bytes words.now)
+        (V.reads volume.new) (V.put volume.old) (V.put volume.new) (V.history volume.new) }
 
-    // Each of its frames that was encoded is read back to its quantised coefficients down to the bit-planes that its cut
-    // keeps, within the limits; and whatever the source tells, each frame's codestream is within them.
+    // Each frame that was encoded is read back to its quantised coefficients down to the bit-planes that its cut keeps,
+    // within the limits.
     ensures encoded { S.tells → result ≡ Status.Done → HasEncodedFrames (S.file source.old) (map string_bytes words.now) }
-    ensures values { V.tells → result ≡ Status.Done → IsPictureFile (V.reads volume.new (Picture 1)) }
 
     // Why it ended so, status by status; and the other way: words, project and inputs that end the command before a frame
     // is read do so, the first cause in their order.
@@ -95,7 +87,7 @@ pub fn run_make<S: Source, V: Volume, O: Sink>(
 
     // What stays in any case.
     ensures kept { IsSameSource S.file S.absent S.taken S.faults source.old source.new }
-    ensures beside { IsSameBeside (Only (Picture 1)) V.tells V.reads V.put V.faults V.history volume.old volume.new }
+    ensures beside { IsSameBeside IsTrack V.tells V.reads V.put V.faults V.history volume.old volume.new }
 
     // The line that is printed; that of `Done` has the project's number of frames.
     ensures printed { O.tells

@@ -4,9 +4,13 @@ use film_inputs::{InputEnd, PlanEnd};
 use film_plan::PlanRefusal;
 use film_project::ProjectRefusal;
 use frame_values::BadWhy;
-use make_engine::{FrameEnd, MakeEnd};
+use make_engine::MakeEnd;
 use mast_base::Bytes;
+use pcm_mix::SoundRefusal;
+use picture_track::{FrameEnd, PictureEnd};
+use sound_track::SoundEnd;
 use stream_inspect::InspectEnd;
+use track_file::TrackEnd;
 
 /// How a command ended.
 #[derive(Debug, Drop)]
@@ -31,8 +35,6 @@ pub enum Status {
     BadStream { refusal: ReadRefusal },
     /// The file has more bytes than are read.
     InputTooLong { size: u64 },
-    /// The project asks for what isn't built yet.
-    Unbuilt,
 }
 
 impl From<InputEnd> for Status {
@@ -111,6 +113,63 @@ impl From<FrameEnd> for Status {
     }
 }
 
+impl From<TrackEnd> for Status {
+    ghost use Rattle.std.specs.Prelude.{◌≡◌};
+    ghost use Rattle.dcp_commands.specs.Status.{track_status};
+
+    ghost from_gives = { λ end status. status ≡ track_status end };
+
+    fn from(end: TrackEnd) -> Self {
+        match end {
+            TrackEnd::StoreFault => Status::StoreFault,
+            TrackEnd::NoMemory => Status::NoMemory,
+        }
+    }
+}
+
+impl From<PictureEnd> for Status {
+    ghost use Rattle.std.specs.Prelude.{◌≡◌};
+    ghost use Rattle.dcp_commands.specs.Status.{picture_status};
+
+    ghost from_gives = { λ end status. status ≡ picture_status end };
+
+    fn from(end: PictureEnd) -> Self {
+        match end {
+            PictureEnd::Frame(end) => end.into(),
+            PictureEnd::Track(end) => end.into(),
+            PictureEnd::NoMemory => Status::NoMemory,
+        }
+    }
+}
+
+impl From<SoundRefusal> for Status {
+    ghost use Rattle.std.specs.Prelude.{◌≡◌};
+    ghost use Rattle.dcp_commands.specs.Status.{mix_status};
+
+    ghost from_gives = { λ refusal status. status ≡ mix_status refusal };
+
+    fn from(refusal: SoundRefusal) -> Self {
+        match refusal {
+            SoundRefusal::SourceFault => Status::SourceFault,
+            SoundRefusal::NoMemory => Status::NoMemory,
+        }
+    }
+}
+
+impl From<SoundEnd> for Status {
+    ghost use Rattle.std.specs.Prelude.{◌≡◌};
+    ghost use Rattle.dcp_commands.specs.Status.{sound_status};
+
+    ghost from_gives = { λ end status. status ≡ sound_status end };
+
+    fn from(end: SoundEnd) -> Self {
+        match end {
+            SoundEnd::Sound(refusal) => refusal.into(),
+            SoundEnd::Track(end) => end.into(),
+        }
+    }
+}
+
 impl From<MakeEnd> for Status {
     ghost use Rattle.std.specs.Prelude.{◌≡◌};
     ghost use Rattle.dcp_commands.specs.Status.{make_status};
@@ -119,9 +178,8 @@ impl From<MakeEnd> for Status {
 
     fn from(end: MakeEnd) -> Self {
         match end {
-            MakeEnd::Frame(end) => end.into(),
-            MakeEnd::StoreFault => Status::StoreFault,
-            MakeEnd::Unbuilt => Status::Unbuilt,
+            MakeEnd::Picture(end) => end.into(),
+            MakeEnd::Sound(end) => end.into(),
             MakeEnd::NoMemory => Status::NoMemory,
         }
     }
@@ -185,7 +243,6 @@ impl Status {
             Status::NoSuchFrame { .. } => 13,
             Status::BadStream { .. } => 14,
             Status::InputTooLong { .. } => 15,
-            Status::Unbuilt => 17,
         }
     }
 }

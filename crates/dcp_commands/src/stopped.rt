@@ -1,6 +1,7 @@
 use film_inputs::PlanEnd;
-use make_engine::{FrameEnd, MakeEnd};
+use make_engine::MakeEnd;
 use mast_base::NoMemory;
+use picture_track::FrameEnd;
 use stream_inspect::InspectEnd;
 
 /// Why a command has nothing to print but its status.

@@ -1,4 +1,1 @@
-pub mod Encoded
-pub mod Frames
-pub mod Outcomes
-pub mod Singles
+pub mod Making

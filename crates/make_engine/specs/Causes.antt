@@ -1,81 +1,35 @@
 -- Why no package was made, ending by ending.
-use Rattle.std.specs.Prelude.{◌≡◌, ◌⊎◌, ℕ, List, take, slice_get, Some, Err, IsOk, IsFalse, ⊤}
-use Rattle.film_project.specs.Facts.{ProjectFacts}
-use Rattle.film_timeline.specs.Timeline.{cells_of, IsFresh}
-use Rattle.film_timeline.specs.declared.cell.Cell.{Cell}
-use Rattle.frame_values.specs.Causes.{IsFault, IsInFile}
-use Rattle.frame_values.specs.Shown.{cell_shown, cells_shown}
-use Rattle.frame_values.specs.declared.ends.BadWhy.{BadWhy}
-use Rattle.frame_values.specs.declared.ends.CellEnd.TheVariants as of_cell
+use Rattle.std.specs.Prelude.{◌≡◌, ◌⊎◌, ℕ, List, ⊤}
 use Rattle.disk_terms.specs.Disk.{History}
+use Rattle.film_project.specs.Facts.{ProjectFacts}
+use Rattle.make_engine.specs.Package.{HasSound}
+use Rattle.make_engine.specs.declared.outcome.MakeEnd.{MakeEnd}
+use Rattle.make_engine.specs.declared.outcome.MakeEnd.TheVariants.{Picture, Sound, NoMemory}
 use Rattle.mast_world.specs.Changes.{IsUnwritten}
 use Rattle.mast_world.specs.Content.{Files}
-use Rattle.mast_world.specs.Count.{HasRisen}
 use Rattle.mast_world.specs.declared.volume.FileId.{FileId}
-use Rattle.make_engine.specs.Package.{is_built}
-use Rattle.make_engine.specs.declared.outcome.FrameEnd.{FrameEnd}
-use Rattle.make_engine.specs.declared.outcome.FrameEnd.TheVariants.{Missing, Bad, SourceFault}
-use Rattle.make_engine.specs.declared.outcome.FrameEnd.TheVariants as of_frame
-use Rattle.make_engine.specs.declared.outcome.MakeEnd.{MakeEnd}
-use Rattle.make_engine.specs.declared.outcome.MakeEnd.TheVariants.{Frame, StoreFault, Unbuilt, NoMemory}
+use Rattle.pcm_mix.specs.declared.refusal.SoundRefusal.TheVariants as of_mix
+use Rattle.picture_track.specs.Causes as of_picture
+use Rattle.sound_track.specs.Causes.{IsSoundCause}
+use Rattle.sound_track.specs.declared.end.SoundEnd.{SoundEnd}
+use Rattle.sound_track.specs.declared.end.SoundEnd.TheVariants as of_sound
+use Rattle.track_file.specs.declared.end.TrackEnd.TheVariants as of_track
 
--- frame f is fresh and shows this cell; all frames in front of it can be shown
-pub record IsReached (tells : Type 0) (files : Files) (project : ProjectFacts) (f : ℕ) (cell : Cell) : Type 0 where
-  pub at : slice_get (cells_of project) f ≡ Some cell
-  pub fresh : IsFresh (cells_of project) f
-  pub earlier : tells → IsOk (cells_shown files project (take f (cells_of project)))
-
--- a fresh frame's file isn't there
-pub record IsMissingFrame (tells : Type 0) (files : Files) (project : ProjectFacts) (name : List ℕ) : Type 0 where
-  pub f : ℕ
-  pub cell : Cell
-  pub reached : IsReached tells files project f cell
-  pub named : IsInFile project cell name
-  pub gone : tells → cell_shown files project cell ≡ Err (of_cell.Missing name)
-
--- a fresh frame's input breaks its form
-pub record IsBadFrame (tells : Type 0) (files : Files) (project : ProjectFacts) (f : ℕ) (why : BadWhy) : Type 0 where
-  pub cell : Cell
-  pub reached : IsReached tells files project f cell
-  pub fault : IsFault project why
-  pub told : tells → cell_shown files project cell ≡ Err (of_cell.Bad why)
-
--- ---- endings. Devices are given by what they tell and count, and by their states before and now.
-
-module _ {A : Type 0} (tells : Type 0) (files : Files) where
-  -- of making the item of a frame, where the frames are made in order
-  abbrev pub IsFrameCause : ProjectFacts → (A → ℕ) → (A → ℕ) → A → A → FrameEnd → Type 0
-  IsFrameCause project absent faults before now (Missing name) =
-      IsMissingFrame tells files project name × HasRisen (absent before) (absent now)
-  IsFrameCause project absent faults before now (Bad frame why) = IsBadFrame tells files project frame why
-  IsFrameCause project absent faults before now SourceFault = HasRisen (faults before) (faults now)
-  IsFrameCause project absent faults before now of_frame.NoMemory = ⊤
-
-  -- of making one frame by itself
-  abbrev pub IsSingleCause : ProjectFacts → ℕ → Cell → (A → ℕ) → (A → ℕ) → A → A → FrameEnd → Type 0
-  IsSingleCause project f cell absent faults before now (Missing name) =
-      IsInFile project cell name × HasRisen (absent before) (absent now)
-      × (tells → cell_shown files project cell ≡ Err (of_cell.Missing name))
-  IsSingleCause project f cell absent faults before now (Bad frame why) =
-      (frame ≡ f) × IsFault project why × (tells → cell_shown files project cell ≡ Err (of_cell.Bad why))
-  IsSingleCause project f cell absent faults before now SourceFault = HasRisen (faults before) (faults now)
-  IsSingleCause project f cell absent faults before now of_frame.NoMemory = ⊤
-
-  module _ {B : Type 0} (project : ProjectFacts) (absent faults : A → ℕ) (before now : A) where
-    -- of copying the frames
-    abbrev pub IsCopyCause : (B → ℕ) → B → B → MakeEnd → Type 0
-    IsCopyCause store_faults volume volume_now (Frame end) = IsFrameCause project absent faults before now end
-    IsCopyCause store_faults volume volume_now StoreFault = HasRisen (store_faults volume) (store_faults volume_now)
-    IsCopyCause store_faults volume volume_now Unbuilt = ⊥
-    IsCopyCause store_faults volume volume_now NoMemory = ⊥
-
-    -- of making the package
-    abbrev pub IsMakeCause : Type 0 → (B → FileId → List ℕ) → (B → FileId → ℕ) → (B → ℕ) → (B → History FileId) → B → B → MakeEnd → Type 0
-    IsMakeCause store_tells reads put store_faults history volume volume_now (Frame end) = IsFrameCause project absent faults before now end
-    IsMakeCause store_tells reads put store_faults history volume volume_now StoreFault = HasRisen (store_faults volume) (store_faults volume_now)
-    IsMakeCause store_tells reads put store_faults history volume volume_now Unbuilt = IsFalse (is_built project) × IsUnwritten store_tells reads put history volume volume_now
-    IsMakeCause store_tells reads put store_faults history volume volume_now NoMemory = IsUnwritten store_tells reads put history volume volume_now
+-- Devices are given by what they tell and count, and by their states before and now.
+module _ {A B : Type 0} (tells : Type 0) (files : Files) (project : ProjectFacts) (absent faults : A → ℕ) (before now : A)
+    (store_tells : Type 0) (reads : B → FileId → List ℕ) (put : B → FileId → ℕ) (store_faults : B → ℕ)
+    (history : B → History FileId) (volume volume_now : B) where
+  abbrev pub IsMakeCause : MakeEnd → Type 0
+  IsMakeCause (Picture end) =
+      of_picture.IsPictureCause tells files project absent faults before now store_tells reads put store_faults history volume volume_now end
+  IsMakeCause (Sound end) = HasSound project × IsSoundCause faults before now store_faults volume volume_now end
+  IsMakeCause NoMemory = IsUnwritten store_tells reads put history volume volume_now
 
 -- ends for want of memory
+abbrev pub IsSoundOutOfMemory : SoundEnd → Type 0
+IsSoundOutOfMemory end = (end ≡ of_sound.Sound of_mix.NoMemory) ⊎ (end ≡ of_sound.Track of_track.NoMemory)
+
 abbrev pub IsOutOfMemory : MakeEnd → Type 0
-IsOutOfMemory end = (end ≡ NoMemory) ⊎ (end ≡ Frame of_frame.NoMemory)
+IsOutOfMemory (Picture end) = of_picture.IsOutOfMemory end
+IsOutOfMemory (Sound end) = IsSoundOutOfMemory end
+IsOutOfMemory NoMemory = ⊤

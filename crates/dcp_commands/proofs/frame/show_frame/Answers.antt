@@ -1,13 +1,13 @@
 -- The plan's project is that of the name; a frame that it has is what the engine makes of it.
 use Rattle.std.proofs.Common.{◌≡◌, Err, ap, refl, sym, ◌∙◌, arith}
-use Rattle.std.proofs.lemmas.Result.{err_from_is_err_and}
+use Rattle.std.proofs.lemmas.Result.{IfErr-at_err, err_from_is_err_and}
 use Rattle.film_plan.specs.declared.job.Plan.{Plan}
-use Rattle.make_engine.specs.Causes.{IsSingleCause}
+use Rattle.picture_track.proofs.Outcomes.{ended_by}
+use Rattle.picture_track.specs.Causes.{IsSingleCause}
 use Rattle.dcp_commands.specs.Frame.{IsStop, cell_of}
 use Rattle.dcp_commands.specs.declared.stopped.Stopped.TheVariants as stop
 use Rattle.dcp_commands.specs.declared.status.Status.TheVariants.{NoSuchFrame}
 use Rattle.dcp_commands.proofs.Framing.{answer_of_none, answer_shown, single_cause}
-use Rattle.dcp_commands.proofs.Making.{cause_of, ended_by}
 use Rattle.dcp_commands.proofs.frame.show_frame.Goals as goal
 
 pub returns-then-frame-frames-clause-ended : goal.returns-then-frame-frames-clause-ended
@@ -34,7 +34,7 @@ returns-in_err-make_frame-clause-ended g c =
     let kept = c.in_ok-plan.ensures.kept in
     let same : c.plan.inside.0.0.frames ≡ project.frames = ap (λ (p : Plan). p.project.frames) c.plan.view_is in
     let p = err_from_is_err_and c.from_residual-in_err-make_frame.result c.from_residual-in_err-make_frame.ensures.1 in
-    let why = cause_of c.make_frame.result end
+    let why = IfErr-at_err
     (IsSingleCause source.tells (source.file between) project f (cell_of project f) source.absent source.faults between now)
     c.in_err-make_frame.was c.make_frame.ensures.ended in
     ended_by c.from_residual-in_err-make_frame.result p.0 (stop.Frame end)

@@ -1,17 +1,17 @@
 -- The plan's project is that of the words; where it is built, the engine's answer is the command's.
 use Rattle.std.proofs.Common.{◌≡◌, map, string_bytes, ap, sym, ◌∙◌, length}
-use Rattle.std.proofs.lemmas.Result.{err_from_is_err_and}
+use Rattle.std.proofs.lemmas.Result.{IfErr-at_err, err_from_is_err_and}
 use Rattle.film_inputs.specs.Inputs.{planned}
 use Rattle.make_engine.specs.Causes.{IsMakeCause}
-use Rattle.make_engine.specs.Package.{is_built}
 use Rattle.make_engine.specs.declared.outcome.Report.{Report}
+use Rattle.picture_track.proofs.Outcomes.{ended_by}
 use Rattle.mast_world.specs.Count.{counted}
-use Rattle.mast_world.specs.declared.volume.FileId.TheVariants.{Picture}
 use Rattle.dcp_commands.specs.Line.{done_text}
 use Rattle.dcp_commands.specs.Make.{IsStop, of_checked}
 use Rattle.dcp_commands.specs.Words.{MakeWords}
 use Rattle.dcp_commands.specs.declared.stopped.Stopped.TheVariants as stop
-use Rattle.dcp_commands.proofs.Making.{built, cause_of, checked_built, ended_by, frames_are, left_by, make_cause, packaged, some_text}
+use Rattle.dcp_commands.proofs.Making.{checked_by, frames_are, left_by, make_cause, packaged, some_text}
+use Rattle.dcp_commands.proofs.Folders.{same_files}
 use Rattle.dcp_commands.proofs.make.make_package.Goals as goal
 
 pub returns-in_err-report-clause-ended : goal.returns-in_err-report-clause-ended
@@ -29,7 +29,7 @@ returns-in_err-report-clause-ended g c =
     let last = c.make_alone.new.volume in
     let kept = c.in_ok-plan.ensures.kept in
     let p = err_from_is_err_and c.from_residual-in_err-report.result c.from_residual-in_err-report.ensures.1 in
-    let why = cause_of c.make_alone.result end
+    let why = IfErr-at_err
     (IsMakeCause source.tells (source.file between) project source.absent source.faults between now volume.tells volume.reads volume.put volume.faults volume.history c.args.volume.now last)
     c.in_err-report.was c.make_alone.ensures.ended in
     ended_by c.from_residual-in_err-report.result p.0 (stop.Make end)
@@ -40,7 +40,6 @@ returns-in_err-report-clause-ended g c =
       accepted = sym c.in-Some.ensures;
       rules = c.in_ok-plan.plan.rules;
       told = λ tells. ap (planned files) (sym c.as_bytes.ensures.value) ∙ c.in_ok-plan.ensures.planned tells;
-      off = λ off. cc (c.in_err-report.was, c.make_alone.ensures.not_built off);
       cause = make_cause source.tells files project source.absent source.faults first between now volume.tells volume.reads volume.put volume.faults volume.history c.args.volume.now last end
           kept.absent_kept kept.faults_kept (rw kept.same_files at why);
       left = left_by source.tells files (source.file between) project source.faults first between now volume.faults c.args.volume.now last
@@ -54,12 +53,11 @@ returns-clause-package g c = λ tells.
     let words = map string_bytes c.args.words.now in
     let project = c.in_ok-plan.plan.project in
     let asked : MakeWords = record { project = c.in-Some.asked.project.now; out = c.in-Some.asked.out.now } in
-    let on = built (is_built project) c.make_alone.result c.in_ok-report.report c.in_ok-report.was c.make_alone.ensures.not_built in
-    let told = checked_built files words asked project (sym c.in-Some.ensures) (ap (planned files) (sym c.as_bytes.ensures.value) ∙ c.in_ok-plan.ensures.planned tells) on in
+    let told = checked_by files words asked project (sym c.in-Some.ensures) (ap (planned files) (sym c.as_bytes.ensures.value) ∙ c.in_ok-plan.ensures.planned tells) in
     let first = source.taken c.args.source.now in
     let between = source.taken c.read_plan.new.source in
     let text = some_text (files c.as_bytes.result.now) (λ text. between ≡ counted first (length text)) (c.in_ok-plan.ensures.taken tells) in
-    packaged g.V.Volume.tells files words asked project text.0 (g.V.Volume.reads c.make_alone.new.volume (Picture 1)) first between (source.taken c.make_alone.new.source)
+    packaged g.V.Volume.tells files words asked project text.0 (g.V.Volume.reads c.make_alone.new.volume) first between (source.taken c.make_alone.new.source)
     (sym c.in-Some.ensures) told (ap files (sym c.as_bytes.ensures.value) ∙ text.1) text.2
     (rw c.in_ok-plan.ensures.kept.same_files at (c.in_ok-report.ensures.made tells))
 
@@ -69,11 +67,10 @@ returns-clause-text g c =
     let words = map string_bytes c.args.words.now in
     let project = c.in_ok-plan.plan.project in
     let asked : MakeWords = record { project = c.in-Some.asked.project.now; out = c.in-Some.asked.out.now } in
-    let on = built (is_built project) c.make_alone.result c.in_ok-report.report c.in_ok-report.was c.make_alone.ensures.not_built in
     record {
       frames = project.frames;
       is = c.in_ok-done_text.ensures ∙ ap (λ (report : Report). done_text report.frames report.kept) c.in_ok-report.ensures.report;
-      told = λ tells. frames_are files words project (checked_built files words asked project (sym c.in-Some.ensures) (ap (planned files) (sym c.as_bytes.ensures.value) ∙ c.in_ok-plan.ensures.planned tells) on);
+      told = λ tells. frames_are files words project (checked_by files words asked project (sym c.in-Some.ensures) (ap (planned files) (sym c.as_bytes.ensures.value) ∙ c.in_ok-plan.ensures.planned tells));
     }
 
 pub returns-clause-encoded : goal.returns-clause-encoded
@@ -82,13 +79,28 @@ returns-clause-encoded g c = λ tells.
     let words = map string_bytes c.args.words.now in
     let project = c.in_ok-plan.plan.project in
     let asked : MakeWords = record { project = c.in-Some.asked.project.now; out = c.in-Some.asked.out.now } in
-    let on = built (is_built project) c.make_alone.result c.in_ok-report.report c.in_ok-report.was c.make_alone.ensures.not_built in
-    let told = checked_built files words asked project (sym c.in-Some.ensures) (ap (planned files) (sym c.as_bytes.ensures.value) ∙ c.in_ok-plan.ensures.planned tells) on in
+    let told = checked_by files words asked project (sym c.in-Some.ensures) (ap (planned files) (sym c.as_bytes.ensures.value) ∙ c.in_ok-plan.ensures.planned tells) in
     record {
       project = project;
       is = ap of_checked told;
       encoded = rw c.in_ok-plan.ensures.kept.same_files at (c.in_ok-report.ensures.encoded tells);
     }
 
-pub returns-clause-values : goal.returns-clause-values
-returns-clause-values g c = λ tells. record { project = c.in_ok-plan.plan.project; rules = c.in_ok-plan.plan.rules; items = c.in_ok-report.ensures.values tells }
+pub returns-clause-folder : goal.returns-clause-folder
+returns-clause-folder g c = λ told.
+    let volume = g.V.Volume in
+    let now = c.make_alone.new.volume in
+    let words = map string_bytes c.args.words.now in
+    let project = c.in_ok-plan.plan.project in
+    let asked : MakeWords = record { project = c.in-Some.asked.project.now; out = c.in-Some.asked.out.now } in
+    let made = c.in_ok-report.ensures in
+    record {
+      project = project;
+      rules = c.in_ok-plan.plan.rules;
+      told = λ tells.
+          ap of_checked (checked_by (g.S.Source.file c.args.source.now) words asked project (sym c.in-Some.ensures)
+          (ap (planned (g.S.Source.file c.args.source.now)) (sym c.as_bytes.ensures.value) ∙ c.in_ok-plan.ensures.planned tells));
+      tracks = made.values told;
+      put = made.put told;
+      on_disk = λ image left. same_files project (volume.reads now) image (volume.history now) (made.at_rest told) left;
+    }

@@ -1,7 +1,4 @@
-use Rattle.std.proofs.Common.{◌≡◌, map, rules, string_bytes, subst}
-use Rattle.disk_terms.specs.Disk.{MayLeave, at_rest}
-use Rattle.disk_terms.proofs.Rest.{at_rest-only}
-use Rattle.mast_world.specs.declared.volume.FileId.TheVariants.{Picture}
+use Rattle.std.proofs.Common.{map, string_bytes}
 use Rattle.dcp_commands.specs.Make.{IsMadeText}
 use Rattle.dcp_commands.proofs.Making.{outcome_cause, outcome_left, outcome_told}
 use Rattle.dcp_commands.proofs.Printing.{printed_of}
@@ -26,7 +23,7 @@ returns-clause-told g c = λ status tells wants.
     let made = c.make_package-outcome in
     outcome_told source.tells (source.file c.args.source.now) (map string_bytes c.args.words.now) source.absent source.faults c.args.source.now made.new.source
     volume.tells volume.reads volume.put volume.faults volume.history c.args.volume.now made.new.volume sink.faults c.args.out.now c.print.new.out
-    volume.tells (volume.reads made.new.volume (Picture 1)) (source.taken c.args.source.now) (source.taken made.new.source)
+    volume.tells (volume.reads made.new.volume) (source.taken c.args.source.now) (source.taken made.new.source)
     c.print.result status made.result tells wants c.print.ensures.answer (made.ensures.package tells) made.ensures.ended
 
 pub returns-clause-complete : goal.returns-clause-complete
@@ -43,10 +40,3 @@ pub returns-clause-printed : goal.returns-clause-printed
 returns-clause-printed g c = λ tells.
     let made = c.make_package-outcome in
     printed_of (IsMadeText g.S.Source.tells (g.S.Source.file c.args.source.now) (map string_bytes c.args.words.now)) made.result c.print.result (g.O.Sink.written c.args.out.now) (g.O.Sink.written c.print.new.out) made.ensures.text (c.print.ensures.printed tells)
-
-pub returns-clause-on_disk : goal.returns-clause-on_disk
-returns-clause-on_disk g c = λ tells done image left.
-    let volume = g.V.Volume in
-    let now = c.make_package-outcome.new.volume in
-    let rests : (volume.history now).newest (Picture 1) ≡ at_rest (volume.reads now (Picture 1)) = search rules in
-    at_rest-only (volume.reads now (Picture 1)) (image (Picture 1)) (subst (λ trail. MayLeave trail (image (Picture 1))) rests (left (Picture 1)))
