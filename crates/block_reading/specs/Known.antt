@@ -15,6 +15,10 @@ use Rattle.block_reading.specs.Scan.{block_at}
 abbrev pub area_of : Field → Area
 area_of field = record { kind = field.kind; width = field.width; height = field.height }
 
+-- bit i of word w stands for a sample of the code-block
+abbrev pub HasSample : Field → ℕ → ℕ → Type 0
+HasSample field w i = has_sample (block_at (area_of field)) w i ≡ true
+
 abbrev pub area_in : Size → Area
 area_in size = record { kind = size.kind; width = size.width; height = size.height }
 

@@ -4,10 +4,9 @@ ghost use Rattle.std.specs.Int.{bit_at, from_bool, w64, trailing_zeros};
 ghost use Rattle.codec_terms.specs.BlockReading.{Known, cleanup_at, run_read, cleanup_column};
 ghost use Rattle.block_words.specs.Told.{column_of};
 ghost use Rattle.block_sets.specs.Places.{column_at, row_at};
-ghost use Rattle.block_passes.specs.Scan.{has_sample};
 ghost use Rattle.block_passes.specs.Left.{HasFour, is_left_at, is_quiet_at, is_run_at};
 ghost use Rattle.block_reading.specs.Scan.{block_at, walk_of, bit_step, column_step, columns_read};
-ghost use Rattle.block_reading.specs.Known.{area_of, HasRoom, HasKnown};
+ghost use Rattle.block_reading.specs.Known.{area_of, HasRoom, HasKnown, HasSample};
 ghost use Rattle.block_reading.specs.Todo.{AreUnread, HasCleaned};
 
 use crate::field::Field;
@@ -88,7 +87,7 @@ fn read_run(field: &Field<'_>, reader: &mut Reader<'_>, room: &mut ReadRoom, w: 
 fn is_quiet(field: &Field<'_>, room: &ReadRoom, w: usize, i: u32) -> bool
     requires w { w < 16 }
     requires i { i < 64 }
-    ensures { (k : Known) → HasRoom (area_of field.now) room.now k → has_sample (block_at (area_of field.now)) w i ≡ true
+    ensures { (k : Known) → HasRoom (area_of field.now) room.now k → HasSample field.now w i
         → result ≡ is_quiet_at (block_at (area_of field.now)) w (walk_of k) i }
 {
     zero_context_at(field, room, w, i) == 0

@@ -2,9 +2,9 @@ ghost use Rattle.std.specs.Prelude.{◌≡◌, ◌<◌, ℕ, true, false};
 ghost use Rattle.std.specs.Int.{bit_at, from_bool, w64, trailing_zeros};
 ghost use Rattle.codec_terms.specs.BlockReading.{Known, known_significant, known_zero_context, next_bit, zero_bit_read, marked_visited, propagation_at};
 ghost use Rattle.block_sets.specs.Places.{column_at, row_at};
-ghost use Rattle.block_passes.specs.Scan.{has_sample, is_later};
-ghost use Rattle.block_reading.specs.Scan.{block_at, bits_read};
-ghost use Rattle.block_reading.specs.Known.{area_of, HasKnown};
+ghost use Rattle.block_passes.specs.Scan.{is_later};
+ghost use Rattle.block_reading.specs.Scan.{bits_read};
+ghost use Rattle.block_reading.specs.Known.{area_of, HasKnown, HasSample};
 ghost use Rattle.block_reading.specs.Todo.{HasPropagated};
 
 use crate::field::Field;
@@ -33,12 +33,12 @@ fn propagate(
 ) -> bool
     requires w { w < 16 }
     requires i { i < 64 }
-    ensures told { (k : Known) → HasKnown (area_of field.now) reader.old room.old k → has_sample (block_at (area_of field.now)) w i ≡ true
+    ensures told { (k : Known) → HasKnown (area_of field.now) reader.old room.old k → HasSample field.now w i
         → known_significant (area_of field.now) k (column_at w i) (row_at w i) ≡ false
         → HasKnown (area_of field.now) reader.new room.new
         (marked_visited (area_of field.now) (column_at w i) (row_at w i)
         (zero_bit_read (area_of field.now) field.now.plane (column_at w i) (row_at w i) k)) }
-    ensures bit { (k : Known) → HasKnown (area_of field.now) reader.old room.old k → has_sample (block_at (area_of field.now)) w i ≡ true
+    ensures bit { (k : Known) → HasKnown (area_of field.now) reader.old room.old k → HasSample field.now w i
         → result ≡ next_bit (known_zero_context (area_of field.now) k (column_at w i) (row_at w i)) k }
 {
     let bit = read_zero_bit(field, reader, room, w, i);

@@ -2,9 +2,8 @@ ghost use Rattle.std.specs.Prelude.{◌≡◌, ◌+◌, ◌^◌, ◌<◌, ℕ, t
 ghost use Rattle.std.specs.Int.{w64, trailing_zeros};
 ghost use Rattle.codec_terms.specs.BlockReading.{Known, known_magnitude, refinement_context, refined_read, refinement_at};
 ghost use Rattle.block_sets.specs.Places.{column_at, row_at};
-ghost use Rattle.block_passes.specs.Scan.{has_sample};
-ghost use Rattle.block_reading.specs.Scan.{block_at, bits_read};
-ghost use Rattle.block_reading.specs.Known.{area_of, HasRoom, HasKnown};
+ghost use Rattle.block_reading.specs.Scan.{bits_read};
+ghost use Rattle.block_reading.specs.Known.{area_of, HasRoom, HasKnown, HasSample};
 ghost use Rattle.block_reading.specs.Bounds.{IsFresh};
 ghost use Rattle.block_reading.specs.Todo.{HasRefined};
 
@@ -17,7 +16,7 @@ use mq_coder::Reader;
 fn context_of(field: &Field<'_>, room: &ReadRoom, w: usize, i: u32) -> u8
     requires w { w < 16 }
     requires i { i < 64 }
-    ensures told { (k : Known) → HasRoom (area_of field.now) room.now k → has_sample (block_at (area_of field.now)) w i ≡ true
+    ensures told { (k : Known) → HasRoom (area_of field.now) room.now k → HasSample field.now w i
         → result ≡ refinement_context (area_of field.now) field.now.plane k (column_at w i) (row_at w i) }
     ensures small { result < 19 }
 {
@@ -28,7 +27,7 @@ fn context_of(field: &Field<'_>, room: &ReadRoom, w: usize, i: u32) -> u8
 fn refine(field: &Field<'_>, reader: &mut Reader<'_>, room: &mut ReadRoom, w: usize, i: u32)
     requires w { w < 16 }
     requires i { i < 64 }
-    ensures { (k : Known) → HasKnown (area_of field.now) reader.old room.old k → has_sample (block_at (area_of field.now)) w i ≡ true
+    ensures { (k : Known) → HasKnown (area_of field.now) reader.old room.old k → HasSample field.now w i
         → known_magnitude (area_of field.now) k (column_at w i) (row_at w i) + 2 ^ field.now.plane < 2 ^ 32
         → HasKnown (area_of field.now) reader.new room.new
         (refined_read (area_of field.now) field.now.plane (column_at w i) (row_at w i)

@@ -1,10 +1,9 @@
 ghost use Rattle.std.specs.Prelude.{◌≡◌, ◌<◌, ℕ, true, false};
 ghost use Rattle.codec_terms.specs.Mq.{Decoder};
-ghost use Rattle.codec_terms.specs.BlockReading.{Known, known_significant, known_zero_context, next_bit, behind_bit, sign_read, zero_bit_read, marked_visited};
+ghost use Rattle.codec_terms.specs.BlockReading.{Known, behind_bit, known_significant, known_zero_context, next_bit};
+ghost use Rattle.codec_terms.specs.BlockReading.{marked_visited, sign_read, zero_bit_read};
 ghost use Rattle.block_sets.specs.Places.{column_at, row_at};
-ghost use Rattle.block_passes.specs.Scan.{has_sample};
-ghost use Rattle.block_reading.specs.Scan.{block_at};
-ghost use Rattle.block_reading.specs.Known.{area_of, HasRoom, HasKnown, with_sign};
+ghost use Rattle.block_reading.specs.Known.{area_of, HasRoom, HasKnown, with_sign, HasSample};
 
 use crate::field::Field;
 use crate::room::{ReadRoom, cell_of, place_of};
@@ -31,7 +30,7 @@ pub(crate) fn read_bit(
 pub(crate) fn zero_context_at(field: &Field<'_>, room: &ReadRoom, w: usize, i: u32) -> u8
     requires w { w < 16 }
     requires i { i < 64 }
-    ensures told { (k : Known) → HasRoom (area_of field.now) room.now k → has_sample (block_at (area_of field.now)) w i ≡ true
+    ensures told { (k : Known) → HasRoom (area_of field.now) room.now k → HasSample field.now w i
         → result ≡ known_zero_context (area_of field.now) k (column_at w i) (row_at w i) }
     ensures small { result < 9 }
 {
@@ -42,9 +41,10 @@ pub(crate) fn zero_context_at(field: &Field<'_>, room: &ReadRoom, w: usize, i: u
 fn set_sample(field: &Field<'_>, room: &mut ReadRoom, w: usize, i: u32, negative: bool)
     requires w { w < 16 }
     requires i { i < 64 }
-    ensures { (k : Known) → HasRoom (area_of field.now) room.old k → has_sample (block_at (area_of field.now)) w i ≡ true
+    ensures { (k : Known) → HasRoom (area_of field.now) room.old k → HasSample field.now w i
         → known_significant (area_of field.now) k (column_at w i) (row_at w i) ≡ false
-        → HasRoom (area_of field.now) room.new (with_sign (area_of field.now) field.now.plane (column_at w i) (row_at w i) negative k) }
+        → HasRoom (area_of field.now) room.new
+        (with_sign (area_of field.now) field.now.plane (column_at w i) (row_at w i) negative k) }
 {
     mark(&mut room.words, place_of(w, i), 0xf00 * u16::from(negative));
     room.significant[w] |= 1 << i;
@@ -63,7 +63,7 @@ pub(crate) fn read_sign(
 )
     requires w { w < 16 }
     requires i { i < 64 }
-    ensures { (k : Known) → HasKnown (area_of field.now) reader.old room.old k → has_sample (block_at (area_of field.now)) w i ≡ true
+    ensures { (k : Known) → HasKnown (area_of field.now) reader.old room.old k → HasSample field.now w i
         → known_significant (area_of field.now) k (column_at w i) (row_at w i) ≡ false
         → HasKnown (area_of field.now) reader.new room.new
         (sign_read (area_of field.now) field.now.plane (column_at w i) (row_at w i) k) }
@@ -83,11 +83,11 @@ pub(crate) fn read_zero_bit(
 ) -> bool
     requires w { w < 16 }
     requires i { i < 64 }
-    ensures told { (k : Known) → HasKnown (area_of field.now) reader.old room.old k → has_sample (block_at (area_of field.now)) w i ≡ true
+    ensures told { (k : Known) → HasKnown (area_of field.now) reader.old room.old k → HasSample field.now w i
         → known_significant (area_of field.now) k (column_at w i) (row_at w i) ≡ false
         → HasKnown (area_of field.now) reader.new room.new
         (zero_bit_read (area_of field.now) field.now.plane (column_at w i) (row_at w i) k) }
-    ensures bit { (k : Known) → HasKnown (area_of field.now) reader.old room.old k → has_sample (block_at (area_of field.now)) w i ≡ true
+    ensures bit { (k : Known) → HasKnown (area_of field.now) reader.old room.old k → HasSample field.now w i
         → result ≡ next_bit (known_zero_context (area_of field.now) k (column_at w i) (row_at w i)) k }
 {
     let context = zero_context_at(field, room, w, i);
@@ -102,8 +102,9 @@ pub(crate) fn read_zero_bit(
 pub(crate) fn visit(field: &Field<'_>, room: &mut ReadRoom, w: usize, i: u32)
     requires w { w < 16 }
     requires i { i < 64 }
-    ensures { (d : Decoder) (k : Known) → HasKnown (area_of field.now) d room.old k → has_sample (block_at (area_of field.now)) w i ≡ true
-        → HasKnown (area_of field.now) d room.new (marked_visited (area_of field.now) (column_at w i) (row_at w i) k) }
+    ensures { (d : Decoder) (k : Known) → HasKnown (area_of field.now) d room.old k → HasSample field.now w i
+        → HasKnown (area_of field.now) d room.new
+        (marked_visited (area_of field.now) (column_at w i) (row_at w i) k) }
 {
     room.visited[w] |= 1 << i;
 }

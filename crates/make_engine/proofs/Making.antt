@@ -1,26 +1,26 @@
 -- A package from its two files.
-use Rattle.std.proofs.Common.{◌≡◌, ◌≢◌, ℕ, ◌+◌, ◌≤◌, Bool, true, false, List, Some, None, Ok, inl, inr, refl, ap, sym, ◌∙◌, subst, arith}
+use Rattle.std.proofs.Common.{◌≡◌, ℕ, ◌+◌, ◌≤◌, Bool, true, false, List, Some, None, Ok, Err, inl, inr, refl, ap, sym, ◌∙◌, subst, arith}
 use Rattle.std.proofs.lemmas.Bool.Decides.{nat_tests}
-use Rattle.std.specs.Prelude.{if◌then◌else◌, nat_lt}
+use Rattle.std.specs.Prelude.{if◌then◌else◌, nat_lt, IsOk, Result}
 use Rattle.codec_terms.specs.Reading.{on_ok}
 use Rattle.disk_terms.specs.Disk.{History, IsUntouchedBeside, at_rest}
 use Rattle.disk_terms.proofs.Untouched.{IsUntouchedBeside-newest}
 use Rattle.film_plan.specs.Plan.{ids_of}
 use Rattle.film_project.specs.Facts.{ProjectFacts}
-use Rattle.make_engine.specs.Causes.{IsMakeCause, IsOutOfMemory, IsSoundOutOfMemory}
-use Rattle.make_engine.specs.Package.{ArePut, HasFiles, HasSound, IsMade, IsSoundFile, sound_file, sounds_size, with_picture}
-use Rattle.make_engine.specs.declared.outcome.MakeEnd.{MakeEnd}
-use Rattle.make_engine.specs.declared.outcome.MakeEnd.TheVariants as of_make
-use Rattle.mast_world.proofs.Kept.{risen_later}
-use Rattle.mast_world.specs.Changes.{IsSameBeside}
+use Rattle.frame_values.specs.declared.ends.CellEnd.{CellEnd}
+use Rattle.make_engine.specs.Causes.{IsSoundOutOfMemory}
+use Rattle.make_engine.specs.Package.{ArePut, HasFiles, HasSound, IsFileOf, IsMade, IsSoundFile, PackageFiles}
+use Rattle.make_engine.specs.Package.{package_files, sound_file, sounds_size, with_picture}
+use Rattle.mast_world.proofs.Kept.{beside_kept_on, beside_kept_wider, risen_later}
+use Rattle.mast_world.specs.Changes.{IsSameBeside, Only}
 use Rattle.mast_world.specs.Content.{Files}
 use Rattle.mast_world.specs.Count.{HasRisen, counted}
 use Rattle.mast_world.specs.declared.volume.FileId.{FileId}
 use Rattle.mast_world.specs.declared.volume.FileId.TheVariants.{Picture, Sound}
 use Rattle.pcm_mix.specs.declared.refusal.SoundRefusal.TheVariants as of_mix
-use Rattle.picture_track.specs.Picture.{HasFrameValues, IsPicture, picture_put}
+use Rattle.picture_track.specs.Picture.{HasFrameValues, IsPicture, picture_of, picture_put}
 use Rattle.sound_track.specs.Causes.{IsSoundCause}
-use Rattle.sound_track.specs.Sound.{HasSoundItems, sound_put}
+use Rattle.sound_track.specs.Sound.{sound_put}
 use Rattle.sound_track.specs.declared.end.SoundEnd.{SoundEnd}
 use Rattle.sound_track.specs.declared.end.SoundEnd.TheVariants as of_sound
 use Rattle.track_file.proofs.Written.{counted-counted}
@@ -38,6 +38,21 @@ pub rests_on : (project : ProjectFacts) (before now : History FileId) (old new :
 rests_on project before now old new untouched same rests =
     IsUntouchedBeside-newest (IsSoundFile project) before now untouched (Picture 1) (picture_apart project) ∙ rests ∙ ap at_rest (sym same)
 
+-- what was touched behind both files, and behind the picture file
+pub beside_picture :
+    {A : Type 0} (project : ProjectFacts) (tells : Type 0) (reads : A → FileId → List ℕ) (put : A → FileId → ℕ) (faults : A → ℕ) (history : A → History FileId) (a b : A) →
+    IsSameBeside (Only (Picture 1)) tells reads put faults history a b → IsSameBeside (IsFileOf project) tells reads put faults history a b
+beside_picture project tells reads put faults history a b kept =
+    beside_kept_wider (Only (Picture 1)) (IsFileOf project) tells reads put faults history a b (λ file is. inl is) kept
+
+pub beside_both :
+    {A : Type 0} (project : ProjectFacts) (tells : Type 0) (reads : A → FileId → List ℕ) (put : A → FileId → ℕ) (faults : A → ℕ) (history : A → History FileId) (a b c : A) →
+    IsSameBeside (Only (Picture 1)) tells reads put faults history a b → IsSameBeside (IsSoundFile project) tells reads put faults history b c →
+    IsSameBeside (IsFileOf project) tells reads put faults history a c
+beside_both project tells reads put faults history a b c first later =
+    beside_kept_on (IsFileOf project) tells reads put faults history a b c (beside_picture project tells reads put faults history a b first)
+    (beside_kept_wider (IsSoundFile project) (IsFileOf project) tells reads put faults history b c (λ file is. inr is) later)
+
 -- ---- what was made
 
 has_files :
@@ -52,18 +67,24 @@ has_files files project reads picture false test same sound = record { picture =
 
 -- the sound was written behind the picture
 pub made :
-    (volume_tells : Type 0) (files : Files) (project : ProjectFacts) (old new : FileId → List ℕ) (before between now : ℕ) →
-    IsPicture volume_tells files project (ids_of project).picture (old (Picture 1)) before between → new (Picture 1) ≡ old (Picture 1) →
+    (volume_tells : Type 0) (files : Files) (project : ProjectFacts) (asset : List ℕ) (old new : FileId → List ℕ) (before between now : ℕ) →
+    asset ≡ (ids_of project).picture → IsPicture volume_tells files project asset (old (Picture 1)) before between → new (Picture 1) ≡ old (Picture 1) →
     (volume_tells → HasSound project → new (Sound 1) ≡ sound_file files project) → now ≡ counted between (sounds_size project) →
     IsMade volume_tells files project new before now
-made volume_tells files project old new before between now it same sound more = record {
+made volume_tells files project asset old new before between now id it same sound more = record {
   made = with_picture files project it.made;
   size = it.size + sounds_size project;
-  shown = ap (λ picture. on_ok picture (λ picture. Ok (with_picture files project picture))) it.shown;
+  shown = ap (λ asset. on_ok (picture_of files project asset) (λ picture. Ok (with_picture files project picture))) (sym id)
+      ∙ ap (λ picture. on_ok picture (λ picture. Ok (with_picture files project picture))) it.shown;
   read = ap (λ frames. on_ok frames (λ n. Ok (n + sounds_size project))) it.read;
   written = λ told. has_files files project new it.made (nat_lt 0 project.channels) refl (same ∙ it.written told) (sound told);
   taken = more ∙ ap (λ n. counted n (sounds_size project)) it.taken ∙ counted-counted before it.size (sounds_size project);
 }
+
+-- the picture is the track of such values behind the sound file too
+pub values_on : (project : ProjectFacts) (asset id old new : List ℕ) → asset ≡ id → new ≡ old → HasFrameValues project asset old → HasFrameValues project id new
+values_on project asset id old new is same values =
+    subst (λ asset. HasFrameValues project asset new) is (subst (HasFrameValues project asset) (sym same) values)
 
 pub put_both :
     (project : ProjectFacts) (old new : FileId → List ℕ) (first between last : FileId → ℕ) →
@@ -76,6 +97,17 @@ put_both project old new first between last same kept untouched picture sound = 
 }
 
 -- ---- why it wasn't
+
+shown_there : (files : Files) (project : ProjectFacts) (shown : Result (List ℕ) CellEnd)
+    → IsOk {T = PackageFiles} {E = CellEnd} (on_ok shown (λ picture. Ok (with_picture files project picture))) → IsOk shown
+shown_there files project (Ok picture) is = refl
+shown_there files project (Err end) is = absurd (cc)
+
+-- a package has a picture file
+pub picture_there : (files : Files) (project : ProjectFacts) (asset : List ℕ) → asset ≡ (ids_of project).picture
+    → IsOk (package_files files project) → IsOk (picture_of files project asset)
+picture_there files project asset id is =
+    subst (λ asset. IsOk (picture_of files project asset)) (sym id) (shown_there files project (picture_of files project (ids_of project).picture) is)
 
 -- why there is no sound file, as it is seen from an earlier state of the devices
 pub sound_cause :
