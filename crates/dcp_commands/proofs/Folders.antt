@@ -5,6 +5,8 @@ use Rattle.disk_terms.proofs.Rest.{at_rest-only}
 use Rattle.disk_terms.specs.Disk.{History, IsImage, MayLeave, at_rest}
 use Rattle.film_project.specs.Facts.{ProjectFacts}
 use Rattle.make_engine.specs.Package.{AreAtRest, HasSound, IsFileOf}
+use Rattle.mast_world.proofs.Kept.{beside_kept_wider}
+use Rattle.mast_world.specs.Changes.{IsSameBeside}
 use Rattle.mast_world.specs.declared.volume.FileId.{FileId}
 use Rattle.mast_world.specs.declared.volume.FileId.TheVariants.{Picture, Sound}
 use Rattle.dcp_commands.specs.Make.{HasSameFiles, IsTrack}
@@ -23,6 +25,13 @@ same_files project reads image history rests left = record {
 }
 
 -- a project's files are tracks
-pub is_track : (project : ProjectFacts) (file : FileId) → IsFileOf project file → IsTrack file
+is_track : (project : ProjectFacts) (file : FileId) → IsFileOf project file → IsTrack file
 is_track project file (inl is) = inl is
 is_track project file (inr is) = inr is.1
+
+-- what is beside the project's files is beside the tracks
+pub beside_tracks :
+    {A : Type 0} (project : ProjectFacts) (tells : Type 0) (reads : A → FileId → List ℕ) (put : A → FileId → ℕ) (faults : A → ℕ) (history : A → History FileId) (before now : A) →
+    IsSameBeside (IsFileOf project) tells reads put faults history before now → IsSameBeside IsTrack tells reads put faults history before now
+beside_tracks project tells reads put faults history before now kept =
+    beside_kept_wider (IsFileOf project) IsTrack tells reads put faults history before now (is_track project) kept

@@ -11,7 +11,7 @@ use Rattle.dcp_commands.specs.Make.{IsStop, of_checked}
 use Rattle.dcp_commands.specs.Words.{MakeWords}
 use Rattle.dcp_commands.specs.declared.stopped.Stopped.TheVariants as stop
 use Rattle.dcp_commands.proofs.Making.{checked_by, frames_are, left_by, make_cause, packaged, some_text}
-use Rattle.dcp_commands.proofs.Folders.{same_files}
+use Rattle.dcp_commands.proofs.Folders.{beside_tracks, same_files}
 use Rattle.dcp_commands.proofs.make.make_package.Goals as goal
 
 pub returns-in_err-report-clause-ended : goal.returns-in_err-report-clause-ended
@@ -104,3 +104,21 @@ returns-clause-folder g c = λ told.
       put = made.put told;
       on_disk = λ image left. same_files project (volume.reads now) image (volume.history now) (made.at_rest told) left;
     }
+
+pub returns-in_err-report-clause-beside : goal.returns-in_err-report-clause-beside
+returns-in_err-report-clause-beside g c =
+    let volume = g.V.Volume in
+    beside_tracks c.in_ok-plan.plan.project volume.tells volume.reads volume.put volume.faults volume.history c.args.volume.now c.make_alone.new.volume
+    c.make_alone.ensures.beside
+
+pub returns-in_err-done_text-clause-beside : goal.returns-in_err-done_text-clause-beside
+returns-in_err-done_text-clause-beside g c =
+    let volume = g.V.Volume in
+    beside_tracks c.in_ok-plan.plan.project volume.tells volume.reads volume.put volume.faults volume.history c.args.volume.now c.make_alone.new.volume
+    c.make_alone.ensures.beside
+
+pub returns-clause-beside : goal.returns-clause-beside
+returns-clause-beside g c =
+    let volume = g.V.Volume in
+    beside_tracks c.in_ok-plan.plan.project volume.tells volume.reads volume.put volume.faults volume.history c.args.volume.now c.make_alone.new.volume
+    c.make_alone.ensures.beside
