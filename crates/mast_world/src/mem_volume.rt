@@ -25,9 +25,9 @@ struct StoredFile {
 /// A volume in memory. It takes a list of the calls that are to fail, counted from 1.
 #[derive(Debug, Drop)]
 pub struct MemVolume {
-    alloc: Global,
+    pub(crate) alloc: Global,
     stored: Vec<FileEntry<StoredFile>>,
-    log: Vec<Change>,
+    pub(crate) log: Vec<Change>,
     failing: Failing,
 }
 
@@ -82,11 +82,19 @@ impl MemVolume {
 }
 
 /// Notes that bytes of a file are to be written.
-fn note_written(log: &mut Vec<Change>, file: FileId, at: u64, size: u64) -> Result<(), AllocError>
-    ensures moment { OnOk result (IsWritten file at size (history_of log.old.items) (history_of log.new.items)) }
+fn note_written(
+    alloc: Global,
+    log: &mut Vec<Change>,
+    file: FileId,
+    at: u64,
+    bytes: &[u8],
+) -> Result<(), NoMemory>
+    ensures moment { OnOk result
+        (IsWritten file at (length bytes.now) (history_of log.old.items) (history_of log.new.items)) }
     ensures rested { OnErr result (IsRested (history_of log.old.items) (history_of log.new.items)) }
 {
-    log.push(Change::Written { file, at, size })?;
+    let bytes = Bytes::copy_of(alloc, bytes)?;
+    log.push(Change::Written { file, at, bytes })?;
     Ok(())
 }
 
@@ -122,7 +130,7 @@ fn entry_of(
 }
 
 /// Writes over what there is from a place on, and past the end.
-fn overwrite(bytes: &mut Vec<u8>, at: usize, new: &[u8]) -> Result<(), AllocError>
+pub(crate) fn overwrite(bytes: &mut Vec<u8>, at: usize, new: &[u8]) -> Result<(), AllocError>
     requires { at ≤ length bytes.old.items }
     ensures ok { OnOk result (bytes.new.items ≡ overwritten bytes.old.items at new.now) }
     ensures err { OnErr result (bytes.new.items ≡ bytes.old.items) }
@@ -219,8 +227,7 @@ impl Volume for MemVolume {
     }
 
     fn write(&mut self, file: FileId, at: u64, bytes: &[u8]) -> Result<(), Failed> {
-        let size = bytes.len() as u64;
-        let noted = note_written(&mut self.log, file, at, size);
+        let noted = note_written(self.alloc, &mut self.log, file, at, bytes);
         self.failing.count_call()?;
         self.failing.or_fail(noted)?;
         let written = write_to(self.alloc, &mut self.stored, file, at as usize, bytes);
