@@ -1,4 +1,4 @@
-ghost use Rattle.std.specs.Prelude.{◌≡◌, ◌≢◌, ◌≤◌, IfOk, OnOk, OnErr, [], length, take};
+ghost use Rattle.std.specs.Prelude.{◌≡◌, ◌≢◌, ◌≤◌, IfOk, OnOk, OnErr, Some, [], length, take};
 ghost use Rattle.mast_world.specs.Content.{overwritten};
 ghost use Rattle.mast_world.specs.FileEntry.{FirstAt};
 ghost use Rattle.disk_terms.specs.Disk.{IsCutTo, IsRested, IsSynced, IsWritten};
@@ -38,6 +38,8 @@ impl MemVolume {
         ensures failing { result.failing ≡ planned_failures failing }
         ensures put { (file : FileId) → ⟦<MemVolume as Volume>⟧.put result file ≡ 0 }
         ensures history { ⟦<MemVolume as Volume>⟧.history result ≡ nothing_there }
+        ensures plan { ⟦<MemVolume as Volume>⟧.plan result ≡ Some failing }
+        ensures calls { ⟦<MemVolume as Volume>⟧.calls result ≡ 0 }
     {
         MemVolume {
             alloc,
@@ -213,6 +215,10 @@ impl Volume for MemVolume {
     ghost faults = { λ volume. volume.failing.faults };
 
     ghost put = { λ volume. stored_put volume.stored.items };
+
+    ghost plan = { λ volume. Some volume.failing.planned };
+
+    ghost calls = { λ volume. volume.failing.calls };
 
     fn len(&mut self, file: FileId) -> Result<u64, Failed> {
         self.failing.count_call()?;
