@@ -32,7 +32,8 @@ grown_rest old at more size is = same_lists _ _ (search (rules, places)) (λ k d
 
 -- bytes over others that were filled up to the place
 pub laid_grown : (at : ℕ) (new old : List ℕ) (size : ℕ) → size ≡ max (length old) at
-    → take at (take size old ++ replicate (size - length old) 0) ++ new ++ drop (at + length new) (take size old ++ replicate (size - length old) 0) ≡ laid at new old
+    → take at (take size old ++ replicate (size - length old) 0) ++ new ++ drop (at + length new)
+    (take size old ++ replicate (size - length old) 0) ≡ laid at new old
 laid_grown at new old size is =
     let grown = take size old ++ replicate (size - length old) 0 in
     ap (λ front. front ++ new ++ drop (at + length new) grown) (grown_front old at size is)
@@ -74,7 +75,8 @@ laid_outside at new old place within (inr behind) =
     let both : length (take at (old ++ replicate at 0) ++ new) ≡ at + length new =
     length-append (take at (old ++ replicate at 0)) new ∙ ap (λ n. n + length new) front in
     let on : at + length new + (place - (at + length new)) ≡ place = omega arith in
-    get_or-append_right (take at (old ++ replicate at 0) ++ new) (drop (at + length new) old) (at + length new) place 0 both behind
+    get_or-append_right (take at (old ++ replicate at 0) ++ new) (drop (at + length new) old)
+    (at + length new) place 0 both behind
     ∙ (get_or-drop (at + length new) old (place - (at + length new)) 0 ∙ ap (λ n. get_or old n 0) on)
 
 -- bytes that have all of the old ones' places, and the old byte at this one
@@ -95,11 +97,14 @@ image_keeps : (image : CrashImage) (at : ℕ) (bytes old : List ℕ) (place : �
     → is_in place (record { at = at; size = length bytes }) ≡ false
     → Keeps place old (laid_by image old (record { at = at; bytes = bytes }))
 image_keeps AsBefore at bytes old place within out = record { longer = omega arith; same = refl }
-image_keeps AsWritten at bytes old place within out = laid_keeps at (length bytes) bytes old place (omega arith) within out
+image_keeps AsWritten at bytes old place within out =
+    laid_keeps at (length bytes) bytes old place (omega arith) within out
 image_keeps HalfWritten at bytes old place within out =
-    laid_keeps at (length bytes) (take (length bytes / 2) bytes) old place (omega (arith, length-take (length bytes / 2) bytes)) within out
+    laid_keeps at (length bytes) (take (length bytes / 2) bytes) old place
+    (omega (arith, length-take (length bytes / 2) bytes)) within out
 image_keeps AllOnes at bytes old place within out =
-    laid_keeps at (length bytes) (replicate (length bytes) 1) old place (omega (arith, length-replicate {A = ℕ})) within out
+    laid_keeps at (length bytes) (replicate (length bytes) 1) old place
+    (omega (arith, length-replicate {A = ℕ})) within out
 
 -- a trail and the writes since its sync
 pub record AreOf (trail : Trail) (writes : List Write) : Type 0 where
@@ -119,7 +124,8 @@ written_of trail writes at bytes were = record {
       let front : Keeps place trail.synced old = were.kept image place within parts.1 in
       let inside : place < length old = omega (arith, within, front.longer) in
       let more = image_keeps image at bytes old place inside parts.0 in
-      subst (Keeps place trail.synced) (sym (fold_push (laid_by image) trail.synced writes (record { at = at; bytes = bytes })))
+      subst (Keeps place trail.synced)
+      (sym (fold_push (laid_by image) trail.synced writes (record { at = at; bytes = bytes })))
       (record { longer = omega (arith, front.longer, more.longer); same = more.same ∙ front.same });
 }
 
@@ -139,9 +145,11 @@ changed_of : (file : FileId) (history : History FileId) (writes : List Write) (c
 changed_of file history writes (Written other at bytes) were = by_case (same_file file other) refl
   where
     by_case : (b : Bool) → same_file file other ≡ b
-        → AreOf (if b then written_to at (length bytes) (history.newest other) else history.newest file) (if b then writes ++ record { at = at; bytes = bytes } ∷ [] else writes)
+        → AreOf (if b then written_to at (length bytes) (history.newest other) else history.newest file)
+        (if b then writes ++ record { at = at; bytes = bytes } ∷ [] else writes)
     by_case true is =
-        subst (λ (f : FileId). AreOf (written_to at (length bytes) (history.newest f)) (writes ++ record { at = at; bytes = bytes } ∷ []))
+        let more = writes ++ record { at = at; bytes = bytes } ∷ [] in
+        subst (λ (f : FileId). AreOf (written_to at (length bytes) (history.newest f)) more)
         (same_file-true file other is) (written_of (history.newest file) writes at bytes were)
     by_case false is = were
 changed_of file history writes (Cut other size) were = by_case (same_file file other) refl
@@ -149,7 +157,8 @@ changed_of file history writes (Cut other size) were = by_case (same_file file o
     by_case : (b : Bool) → same_file file other ≡ b
         → AreOf (if b then cut_to size (history.newest other) else history.newest file) writes
     by_case true is =
-        subst (λ (f : FileId). AreOf (cut_to size (history.newest f)) writes) (same_file-true file other is) (cut_of (history.newest file) writes size were)
+        subst (λ (f : FileId). AreOf (cut_to size (history.newest f)) writes) (same_file-true file other is)
+        (cut_of (history.newest file) writes size were)
     by_case false is = were
 changed_of file history writes (Synced other bytes) were = by_case (same_file file other)
   where
@@ -162,7 +171,8 @@ folded_of : (file : FileId) (log : List Change) (history : History FileId) (writ
     → AreOf ((fold changed_by history log).newest file) (fold (unsynced_by file) writes log)
 folded_of file [] history writes were = were
 folded_of file (change ∷ log) history writes were =
-    folded_of file log (changed_by history change) (unsynced_by file writes change) (changed_of file history writes change were)
+    folded_of file log (changed_by history change) (unsynced_by file writes change)
+    (changed_of file history writes change were)
 
 -- of every log
 pub unsynced-are_of : (log : List Change) (file : FileId) → AreOf (trail_in log file) (unsynced log file)
@@ -177,7 +187,8 @@ fold-as_before synced (write ∷ writes) = fold-as_before synced writes
 front_left : (trail : Trail) (writes : List Write) → AreOf trail writes → AreBytes (take trail.least trail.synced)
     → MayLeave trail (take trail.least trail.synced)
 front_left trail writes were small =
-    let size : length (take trail.least trail.synced) ≡ trail.least = length-take trail.least trail.synced ∙ omega (arith, were.least) in
+    let size : length (take trail.least trail.synced) ≡ trail.least =
+    length-take trail.least trail.synced ∙ omega (arith, were.least) in
     record {
       least = omega (arith, size);
       greatest = omega (arith, size, were.least, were.greatest);
@@ -200,17 +211,22 @@ padded_left image fill trail writes were small =
       kept = λ place within inside out.
           let keeps = were.kept image place inside out in
           get_or-take trail.greatest (bytes ++ replicate trail.greatest fill) place 0 (omega (arith, size, within))
-          ∙ (get_or_append_left bytes (replicate trail.greatest fill) 0 place (omega (arith, inside, keeps.longer)) ∙ keeps.same);
+          ∙ (get_or_append_left bytes (replicate trail.greatest fill) 0 place (omega (arith, inside, keeps.longer))
+          ∙ keeps.same);
       small = small;
     }
 
 -- a crash may leave each of the images
 pub crash_image-left : (image : CrashImage) (log : List Change) (file : FileId) → AreBytes (crash_image image log file)
     → MayLeave (trail_in log file) (crash_image image log file)
-crash_image-left AsBefore log file small = front_left (trail_in log file) (unsynced log file) (unsynced-are_of log file) small
-crash_image-left AsWritten log file small = padded_left AsWritten 0 (trail_in log file) (unsynced log file) (unsynced-are_of log file) small
-crash_image-left HalfWritten log file small = padded_left HalfWritten 0 (trail_in log file) (unsynced log file) (unsynced-are_of log file) small
-crash_image-left AllOnes log file small = padded_left AllOnes 1 (trail_in log file) (unsynced log file) (unsynced-are_of log file) small
+crash_image-left AsBefore log file small =
+    front_left (trail_in log file) (unsynced log file) (unsynced-are_of log file) small
+crash_image-left AsWritten log file small =
+    padded_left AsWritten 0 (trail_in log file) (unsynced log file) (unsynced-are_of log file) small
+crash_image-left HalfWritten log file small =
+    padded_left HalfWritten 0 (trail_in log file) (unsynced log file) (unsynced-are_of log file) small
+crash_image-left AllOnes log file small =
+    padded_left AllOnes 1 (trail_in log file) (unsynced log file) (unsynced-are_of log file) small
 
 pub images_left : {E : Type 0} (image : CrashImage) (log : List Change) (file : FileId) (made : Result (List ℕ) E)
     → IfOk made (λ bytes. bytes ≡ crash_image image log file)
@@ -226,13 +242,15 @@ unfolding unsynced
 unsynced_on log file change = fold_push (unsynced_by file) [] log change
 
 -- what an image is made of, behind a change that makes this of the trail and the writes
-remains_on : (image : CrashImage) (log : List Change) (file : FileId) (change : Change) (trail : Trail) (writes : List Write) (remains : Remains)
+remains_on : (image : CrashImage) (log : List Change) (file : FileId) (change : Change) (trail : Trail)
+    (writes : List Write) (remains : Remains)
     → (changed_by (history_of log) change).newest file ≡ trail → unsynced_by file (unsynced log file) change ≡ writes
     → remains.bytes.items ≡ fold (laid_by image) trail.synced writes → remains.least ≡ trail.least
     → remains.greatest ≡ trail.greatest
     → AreRemains image (log ++ change ∷ []) file remains
 remains_on image log file change trail writes remains changed unsynced_is bytes least greatest =
-    let now : trail_in (log ++ change ∷ []) file ≡ trail = ap (λ (h : History FileId). h.newest file) (history_on log change) ∙ changed in
+    let now : trail_in (log ++ change ∷ []) file ≡ trail =
+    ap (λ (h : History FileId). h.newest file) (history_on log change) ∙ changed in
     let since : unsynced (log ++ change ∷ []) file ≡ writes = unsynced_on log file change ∙ unsynced_is in
     record {
       bytes = bytes ∙ sym (ap (λ (t : Trail). fold (laid_by image) t.synced (unsynced (log ++ change ∷ []) file)) now
@@ -258,15 +276,18 @@ pub remains_other : (image : CrashImage) (log : List Change) (file : FileId) (ch
     → same_file file (file_of change) ≡ false
     → AreRemains image log file remains → AreRemains image (log ++ change ∷ []) file remains
 remains_other image log file change remains is were =
-    remains_on image log file change (trail_in log file) (unsynced log file) remains (other_trail file (history_of log) change is)
+    remains_on image log file change (trail_in log file) (unsynced log file) remains
+    (other_trail file (history_of log) change is)
     (other_writes file (unsynced log file) change is) were.bytes were.least were.greatest
 
 own_trail : (file other : FileId) (history : History FileId) (trail : Trail → Trail) → same_file file other ≡ true
     → (if same_file file other then trail (history.newest other) else history.newest file) ≡ trail (history.newest file)
-own_trail file other history trail is = rw is (ap (λ (f : FileId). trail (history.newest f)) (sym (same_file-true file other is)))
+own_trail file other history trail is =
+    rw is (ap (λ (f : FileId). trail (history.newest f)) (sym (same_file-true file other is)))
 
 -- a write to the file
-pub remains_written : {E : Type 0} (image : CrashImage) (log : List Change) (file other : FileId) (at : ℕ) (bytes : List ℕ) (before now : Remains) (done : Result (Unit {0}) E)
+pub remains_written : {E : Type 0} (image : CrashImage) (log : List Change) (file other : FileId) (at : ℕ)
+    (bytes : List ℕ) (before now : Remains) (done : Result (Unit {0}) E)
     → same_file file other ≡ true
     → OnOk done (now.bytes.items ≡ laid_by image before.bytes.items (record { at = at; bytes = bytes }))
     → now.least ≡ before.least
@@ -275,9 +296,11 @@ pub remains_written : {E : Type 0} (image : CrashImage) (log : List Change) (fil
 remains_written image log file other at bytes before now (Ok x) is laid least greatest were =
     let write : Write = record { at = at; bytes = bytes } in
     let trail = trail_in log file in
-    remains_on image log file (Written other at bytes) (written_to at (length bytes) trail) (unsynced log file ++ write ∷ []) now
+    remains_on image log file (Written other at bytes) (written_to at (length bytes) trail)
+    (unsynced log file ++ write ∷ []) now
     (own_trail file other (history_of log) (written_to at (length bytes)) is) (rw is)
-    (laid ∙ (ap (λ old. laid_by image old write) were.bytes ∙ sym (fold_push (laid_by image) trail.synced (unsynced log file) write)))
+    (laid ∙ (ap (λ old. laid_by image old write) were.bytes
+    ∙ sym (fold_push (laid_by image) trail.synced (unsynced log file) write)))
     (least ∙ were.least) (greatest ∙ ap (λ n. max n (at + length bytes)) were.greatest)
 remains_written image log file other at bytes before now (Err x) is laid least greatest were = tt
 
@@ -293,7 +316,8 @@ remains_cut image log file other size before now is same least greatest were =
     (same ∙ were.bytes) (least ∙ ap (λ n. min n size) were.least) (greatest ∙ were.greatest)
 
 -- a sync of the file
-pub remains_synced : {E : Type 0} (image : CrashImage) (log : List Change) (file other : FileId) (bytes : List ℕ) (now : Remains) (done : Result (Unit {0}) E)
+pub remains_synced : {E : Type 0} (image : CrashImage) (log : List Change) (file other : FileId) (bytes : List ℕ)
+    (now : Remains) (done : Result (Unit {0}) E)
     → same_file file other ≡ true → OnOk done (now.bytes.items ≡ bytes) → OnOk done (now.least ≡ length bytes)
     → OnOk done (now.greatest ≡ length bytes)
     → OnOk done (AreRemains image (log ++ Synced other bytes ∷ []) file now)

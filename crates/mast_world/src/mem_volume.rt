@@ -153,10 +153,12 @@ fn write_entry(
 ) -> Result<(), AllocError>
     requires first { FirstAt stored.old file entry }
     requires at { at ≤ length (stored_bytes stored.old file) }
-    ensures written { OnOk result (stored_bytes stored.new file ≡ overwritten (stored_bytes stored.old file) at bytes.now) }
+    ensures written { OnOk result
+        (stored_bytes stored.new file ≡ overwritten (stored_bytes stored.old file) at bytes.now) }
     ensures unwritten { OnErr result (stored_bytes stored.new file ≡ stored_bytes stored.old file) }
     ensures other_bytes { (f : FileId) → f ≢ file → stored_bytes stored.new f ≡ stored_bytes stored.old f }
-    ensures count_put { stored_put stored.new file ≡ counted_on_ok (stored_put stored.old file) (length bytes.now) result }
+    ensures count_put { stored_put stored.new file
+        ≡ counted_on_ok (stored_put stored.old file) (length bytes.now) result }
     ensures other_put { (f : FileId) → f ≢ file → stored_put stored.new f ≡ stored_put stored.old f }
 {
     let entry = &mut stored[entry];
@@ -174,10 +176,12 @@ fn write_to(
     bytes: &[u8],
 ) -> Result<(), AllocError>
     requires { at ≤ length (stored_bytes stored.old.items file) }
-    ensures written { OnOk result (stored_bytes stored.new.items file ≡ overwritten (stored_bytes stored.old.items file) at bytes.now) }
+    ensures written { OnOk result
+        (stored_bytes stored.new.items file ≡ overwritten (stored_bytes stored.old.items file) at bytes.now) }
     ensures unwritten { OnErr result (stored_bytes stored.new.items file ≡ stored_bytes stored.old.items file) }
     ensures other_bytes { (f : FileId) → f ≢ file → stored_bytes stored.new.items f ≡ stored_bytes stored.old.items f }
-    ensures count_put { stored_put stored.new.items file ≡ counted_on_ok (stored_put stored.old.items file) (length bytes.now) result }
+    ensures count_put { stored_put stored.new.items file
+        ≡ counted_on_ok (stored_put stored.old.items file) (length bytes.now) result }
     ensures other_put { (f : FileId) → f ≢ file → stored_put stored.new.items f ≡ stored_put stored.old.items f }
 {
     let entry = entry_of(alloc, stored, file)?;
