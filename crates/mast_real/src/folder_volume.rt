@@ -1,4 +1,4 @@
-ghost use Rattle.std.specs.Prelude.{◌≡◌, ◌≢◌, ◌≤◌, [], IfOk, IfSome, OnErr, OnOk, length};
+ghost use Rattle.std.specs.Prelude.{◌≡◌, ◌≢◌, ◌≤◌, [], IfOk, IfSome, None, OnErr, OnOk, length};
 ghost use Rattle.mast_world.specs.Count.{counted, counted_on_ok};
 ghost use Rattle.mast_world.specs.FileEntry.{FirstAt};
 ghost use Rattle.mast_world.specs.Log.{nothing_there};
@@ -195,6 +195,10 @@ impl<R: Files<File = File> + Drop> Volume for FolderVolume<R> {
     ghost faults = { λ volume. volume.faults };
 
     ghost put = { λ volume. folder_put volume.files.items };
+
+    ghost plan = { λ _. None };
+
+    ghost calls = { λ _. 0 };
 
     fn len(&mut self, file: FileId) -> Result<u64, Failed> {
         match self.len_of(file) {

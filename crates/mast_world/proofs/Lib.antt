@@ -1,4 +1,5 @@
 pub mod FileEntryLemmas
+pub mod CrashImages
 pub mod Find
 pub mod Kept
 pub mod SameFile

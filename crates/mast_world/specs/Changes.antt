@@ -1,4 +1,5 @@
--- What steps leave of a device as it was. A device is given by what it tells and counts, and by its states before and now.
+-- What steps leave of a device as it was. A device is given by what it tells and counts, and by its states before and
+-- now.
 use Rattle.std.specs.Prelude.{◌≡◌, ℕ, ◌≤◌, List}
 use Rattle.disk_terms.specs.Disk.{History, IsRested, IsUntouchedBeside}
 use Rattle.mast_world.specs.Content.{Files}

@@ -2,7 +2,8 @@
 use Rattle.std.specs.Prelude.{◌≡◌, ℕ, ◌<◌, ◌==◌, List, length, take, slice_index_or, Bool, true, false, None}
 use Rattle.std.specs.List.{find}
 use Rattle.mast_world.specs.declared.volume.FileId.{FileId}
-use Rattle.mast_world.specs.declared.volume.FileId.TheVariants.{Picture, Sound, Cpl, Pkl, AssetMap, VolIndex, Job, Info, Spill}
+use Rattle.mast_world.specs.declared.volume.FileId.TheVariants.{Picture, Sound, Cpl, Pkl, AssetMap, VolIndex}
+use Rattle.mast_world.specs.declared.volume.FileId.TheVariants.{Job, Info, Spill}
 use Rattle.mast_world.specs.declared.file_entry.FileEntry.{FileEntry}
 
 abbrev pub same_file : FileId → FileId → Bool

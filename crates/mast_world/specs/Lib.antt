@@ -1,6 +1,7 @@
 pub mod Changes
 pub mod Content
 pub mod Count
+pub mod Crash
 pub mod Failing
 pub mod FileEntry
 pub mod Log

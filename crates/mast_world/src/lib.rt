@@ -2,6 +2,7 @@
 #![tactic(auto)]
 
 mod change;
+mod crash;
 mod failing;
 mod faults;
 mod file_entry;
@@ -12,6 +13,7 @@ mod sink;
 mod source;
 mod volume;
 
+pub use crash::CrashImage;
 pub use failing::count_on;
 pub use faults::{Failed, StoreFault};
 pub use file_entry::{FileEntry, position_of};

@@ -1,4 +1,4 @@
-ghost use Rattle.std.specs.Prelude.{◌≡◌, ◌≢◌, ◌≤◌, IfOk, OnOk, OnErr, [], length, take};
+ghost use Rattle.std.specs.Prelude.{◌≡◌, ◌≢◌, ◌≤◌, IfOk, OnOk, OnErr, Some, [], length, take};
 ghost use Rattle.mast_world.specs.Content.{overwritten};
 ghost use Rattle.mast_world.specs.FileEntry.{FirstAt};
 ghost use Rattle.disk_terms.specs.Disk.{IsCutTo, IsRested, IsSynced, IsWritten};
@@ -25,9 +25,9 @@ struct StoredFile {
 /// A volume in memory. It takes a list of the calls that are to fail, counted from 1.
 #[derive(Debug, Drop)]
 pub struct MemVolume {
-    alloc: Global,
+    pub(crate) alloc: Global,
     stored: Vec<FileEntry<StoredFile>>,
-    log: Vec<Change>,
+    pub(crate) log: Vec<Change>,
     failing: Failing,
 }
 
@@ -38,6 +38,8 @@ impl MemVolume {
         ensures failing { result.failing ≡ planned_failures failing }
         ensures put { (file : FileId) → ⟦<MemVolume as Volume>⟧.put result file ≡ 0 }
         ensures history { ⟦<MemVolume as Volume>⟧.history result ≡ nothing_there }
+        ensures plan { ⟦<MemVolume as Volume>⟧.plan result ≡ Some failing }
+        ensures calls { ⟦<MemVolume as Volume>⟧.calls result ≡ 0 }
     {
         MemVolume {
             alloc,
@@ -82,11 +84,19 @@ impl MemVolume {
 }
 
 /// Notes that bytes of a file are to be written.
-fn note_written(log: &mut Vec<Change>, file: FileId, at: u64, size: u64) -> Result<(), AllocError>
-    ensures moment { OnOk result (IsWritten file at size (history_of log.old.items) (history_of log.new.items)) }
+fn note_written(
+    alloc: Global,
+    log: &mut Vec<Change>,
+    file: FileId,
+    at: u64,
+    bytes: &[u8],
+) -> Result<(), NoMemory>
+    ensures moment { OnOk result
+        (IsWritten file at (length bytes.now) (history_of log.old.items) (history_of log.new.items)) }
     ensures rested { OnErr result (IsRested (history_of log.old.items) (history_of log.new.items)) }
 {
-    log.push(Change::Written { file, at, size })?;
+    let bytes = Bytes::copy_of(alloc, bytes)?;
+    log.push(Change::Written { file, at, bytes })?;
     Ok(())
 }
 
@@ -122,7 +132,7 @@ fn entry_of(
 }
 
 /// Writes over what there is from a place on, and past the end.
-fn overwrite(bytes: &mut Vec<u8>, at: usize, new: &[u8]) -> Result<(), AllocError>
+pub(crate) fn overwrite(bytes: &mut Vec<u8>, at: usize, new: &[u8]) -> Result<(), AllocError>
     requires { at ≤ length bytes.old.items }
     ensures ok { OnOk result (bytes.new.items ≡ overwritten bytes.old.items at new.now) }
     ensures err { OnErr result (bytes.new.items ≡ bytes.old.items) }
@@ -143,10 +153,12 @@ fn write_entry(
 ) -> Result<(), AllocError>
     requires first { FirstAt stored.old file entry }
     requires at { at ≤ length (stored_bytes stored.old file) }
-    ensures written { OnOk result (stored_bytes stored.new file ≡ overwritten (stored_bytes stored.old file) at bytes.now) }
+    ensures written { OnOk result
+        (stored_bytes stored.new file ≡ overwritten (stored_bytes stored.old file) at bytes.now) }
     ensures unwritten { OnErr result (stored_bytes stored.new file ≡ stored_bytes stored.old file) }
     ensures other_bytes { (f : FileId) → f ≢ file → stored_bytes stored.new f ≡ stored_bytes stored.old f }
-    ensures count_put { stored_put stored.new file ≡ counted_on_ok (stored_put stored.old file) (length bytes.now) result }
+    ensures count_put { stored_put stored.new file
+        ≡ counted_on_ok (stored_put stored.old file) (length bytes.now) result }
     ensures other_put { (f : FileId) → f ≢ file → stored_put stored.new f ≡ stored_put stored.old f }
 {
     let entry = &mut stored[entry];
@@ -164,10 +176,12 @@ fn write_to(
     bytes: &[u8],
 ) -> Result<(), AllocError>
     requires { at ≤ length (stored_bytes stored.old.items file) }
-    ensures written { OnOk result (stored_bytes stored.new.items file ≡ overwritten (stored_bytes stored.old.items file) at bytes.now) }
+    ensures written { OnOk result
+        (stored_bytes stored.new.items file ≡ overwritten (stored_bytes stored.old.items file) at bytes.now) }
     ensures unwritten { OnErr result (stored_bytes stored.new.items file ≡ stored_bytes stored.old.items file) }
     ensures other_bytes { (f : FileId) → f ≢ file → stored_bytes stored.new.items f ≡ stored_bytes stored.old.items f }
-    ensures count_put { stored_put stored.new.items file ≡ counted_on_ok (stored_put stored.old.items file) (length bytes.now) result }
+    ensures count_put { stored_put stored.new.items file
+        ≡ counted_on_ok (stored_put stored.old.items file) (length bytes.now) result }
     ensures other_put { (f : FileId) → f ≢ file → stored_put stored.new.items f ≡ stored_put stored.old.items f }
 {
     let entry = entry_of(alloc, stored, file)?;
@@ -206,6 +220,10 @@ impl Volume for MemVolume {
 
     ghost put = { λ volume. stored_put volume.stored.items };
 
+    ghost plan = { λ volume. Some volume.failing.planned };
+
+    ghost calls = { λ volume. volume.failing.calls };
+
     fn len(&mut self, file: FileId) -> Result<u64, Failed> {
         self.failing.count_call()?;
         Ok(self.bytes(file).len() as u64)
@@ -219,8 +237,7 @@ impl Volume for MemVolume {
     }
 
     fn write(&mut self, file: FileId, at: u64, bytes: &[u8]) -> Result<(), Failed> {
-        let size = bytes.len() as u64;
-        let noted = note_written(&mut self.log, file, at, size);
+        let noted = note_written(self.alloc, &mut self.log, file, at, bytes);
         self.failing.count_call()?;
         self.failing.or_fail(noted)?;
         let written = write_to(self.alloc, &mut self.stored, file, at as usize, bytes);

@@ -1,9 +1,11 @@
-ghost use Rattle.std.specs.Prelude.{◌≡◌, ◌≤◌, ◌+◌, ℕ, List, length, take, IfOk, OnErr, OnOk};
+ghost use Rattle.std.specs.Prelude.{◌≡◌, ◌≤◌, ◌+◌, ℕ, List, length, take};
+ghost use Rattle.std.specs.Prelude.{Option, IfOk, IsErr, IsOk, OnErr, OnOk};
 ghost use Rattle.disk_terms.specs.Disk.{DiffersWithin, History, IsCutAtMost, IsCutTo, IsCutWithin, IsImage};
 ghost use Rattle.disk_terms.specs.Disk.{IsRested, IsSynced, IsWritten, IsWrittenAtMost};
 ghost use Rattle.mast_world.specs.Changes.{IsSameBeside, Only};
 ghost use Rattle.mast_world.specs.Content.{part, overwritten};
 ghost use Rattle.mast_world.specs.Count.{counted_on_ok, IsFaultCount};
+ghost use Rattle.mast_world.specs.Failing.{IsCalled, IsDue, IsSpared};
 ghost use Rattle.mast_world.specs.declared.volume.FileId.{FileId};
 
 use crate::Failed;
@@ -24,8 +26,8 @@ pub enum FileId {
 
 /// The output folder: a fixed table of files. A file that isn't there is an empty one.
 ///
-/// A call is one moment of the history: a crash in the middle of it leaves an image of the disk in front of it or of that
-/// behind it.
+/// A call is one moment of the history: a crash in the middle of it leaves an image of the disk in front of it or of
+/// that behind it.
 pub trait Volume {
     /// Holds of a kind of volume that tells its contents.
     ghost tells: { Type 0 };
@@ -42,6 +44,12 @@ pub trait Volume {
     /// How many bytes were written to a file.
     ghost put: { Self → FileId → ℕ };
 
+    /// Which calls are to fail, counted from 1, of a volume that has such a list.
+    ghost plan: { Self → Option (List ℕ) };
+
+    /// How many calls there were, of such a volume.
+    ghost calls: { Self → ℕ };
+
     /// The length of a file, in bytes.
     fn len(&mut self, file: FileId) -> Result<u64, Failed>
         ensures length { tells → IfOk result (λ n. n ≡ length (reads self.old file)) }
@@ -50,7 +58,10 @@ pub trait Volume {
         ensures rested { tells → IsRested (history self.old) (history self.new) }
         ensures same_put { put self.new ≡ put self.old }
 
-        ensures faults { IsFaultCount (faults self.old) (faults self.new) result };
+        ensures faults { IsFaultCount (faults self.old) (faults self.new) result }
+        ensures called { IsCalled plan calls self.old self.new }
+        ensures planned { IsDue (plan self.old) (calls self.old) → IsErr result }
+        ensures spared { IsSpared (plan self.old) (calls self.old) → IsOk result };
 
     /// Fills `into` with the bytes of a file from the place `at` on.
     fn read(&mut self, file: FileId, at: u64, into: &mut [u8]) -> Result<(), Failed>
@@ -62,7 +73,10 @@ pub trait Volume {
         ensures rested { tells → IsRested (history self.old) (history self.new) }
         ensures same_put { put self.new ≡ put self.old }
 
-        ensures faults { IsFaultCount (faults self.old) (faults self.new) result };
+        ensures faults { IsFaultCount (faults self.old) (faults self.new) result }
+        ensures called { IsCalled plan calls self.old self.new }
+        ensures planned { IsDue (plan self.old) (calls self.old) → IsErr result }
+        ensures spared { IsSpared (plan self.old) (calls self.old) → IsOk result };
 
     /// Writes over what a file has from the place `at` on, and past its end.
     fn write(&mut self, file: FileId, at: u64, bytes: &[u8]) -> Result<(), Failed>
@@ -82,7 +96,9 @@ pub trait Volume {
         ensures count_put { put self.new file ≡ counted_on_ok (put self.old file) (length bytes.now) result }
         ensures beside { IsSameBeside (Only file) tells reads put faults history self.old self.new }
 
-        ensures faults { IsFaultCount (faults self.old) (faults self.new) result };
+        ensures faults { IsFaultCount (faults self.old) (faults self.new) result }
+        ensures called { IsCalled plan calls self.old self.new }
+        ensures planned { IsDue (plan self.old) (calls self.old) → IsErr result };
 
     /// Shortens a file to `len` bytes. One that isn't longer stays as it is.
     fn cut(&mut self, file: FileId, len: u64) -> Result<(), Failed>
@@ -97,13 +113,16 @@ pub trait Volume {
         ensures same_put { put self.new ≡ put self.old }
         ensures beside { IsSameBeside (Only file) tells reads put faults history self.old self.new }
 
-        ensures faults { IsFaultCount (faults self.old) (faults self.new) result };
+        ensures faults { IsFaultCount (faults self.old) (faults self.new) result }
+        ensures called { IsCalled plan calls self.old self.new }
+        ensures planned { IsDue (plan self.old) (calls self.old) → IsErr result };
 
     /// Waits until the file is on the disk. Where it fails, that stays as unknown as it was.
     fn sync(&mut self, file: FileId) -> Result<(), Failed>
         ensures same_reads { reads self.new ≡ reads self.old }
 
-        ensures synced { tells → OnOk result (IsSynced file (reads self.old file) (history self.old) (history self.new)) }
+        ensures synced { tells
+            → OnOk result (IsSynced file (reads self.old file) (history self.old) (history self.new)) }
         ensures rested { tells → OnErr result (IsRested (history self.old) (history self.new)) }
         ensures left { tells → IsImage (history self.old).newest (reads self.old)
             → IsImage (history self.new).newest (reads self.new) }
@@ -111,5 +130,7 @@ pub trait Volume {
         ensures same_put { put self.new ≡ put self.old }
         ensures beside { IsSameBeside (Only file) tells reads put faults history self.old self.new }
 
-        ensures faults { IsFaultCount (faults self.old) (faults self.new) result };
+        ensures faults { IsFaultCount (faults self.old) (faults self.new) result }
+        ensures called { IsCalled plan calls self.old self.new }
+        ensures planned { IsDue (plan self.old) (calls self.old) → IsErr result };
 }
