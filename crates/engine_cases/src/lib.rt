@@ -2,4 +2,10 @@
 #![tactic(auto)]
 
 #[cfg(test)]
-mod engine;
+mod longest;
+#[cfg(test)]
+mod pictures;
+#[cfg(test)]
+mod runs;
+#[cfg(test)]
+mod sounds;

@@ -3,3 +3,9 @@
 
 #[cfg(test)]
 mod commands;
+#[cfg(test)]
+mod inputs;
+#[cfg(test)]
+mod runs;
+#[cfg(test)]
+mod sounds;
