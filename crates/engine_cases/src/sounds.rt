@@ -140,7 +140,7 @@ fn check_row(rt: &impl Abort, alloc: Global, row: &Row) -> Result<(), AllocError
     Ok(())
 }
 
-const ROWS: [Row; 6] = [
+const ROWS: [Row; 7] = [
     // Sums beyond the greatest and the least sample.
     Row {
         fps: 24,
@@ -218,6 +218,22 @@ const ROWS: [Row; 6] = [
         digest: [
             0x29, 0x8b, 0x3e, 0x39, 0x4f, 0x2b, 0xb3, 0xdf, 0x96, 0x33, 0xca, 0x6e, 0x4d, 0x07,
             0x42, 0xfd, 0x65, 0xab, 0x69, 0x2a,
+        ],
+    },
+    // Half of one channel of many: the lowest byte is the first one, and half a step is dropped.
+    Row {
+        fps: 48,
+        channels: 1,
+        frames: 1,
+        sound: "{\"asset\":\"wide\",\"at\":0,\"from\":0,\"count\":1,\"gains\":[[15,0,32768]]}",
+        samples: 1000,
+        length: [0, 0x0b, 0xb8],
+        want: &[&[0x87, 0x97, 0x27]],
+        taken: 48_000,
+        put: 36_348,
+        digest: [
+            0xfd, 0x53, 0x89, 0x17, 0x86, 0xf6, 0xae, 0x43, 0x73, 0x44, 0xf2, 0xe9, 0x10, 0xd4,
+            0xd4, 0xbe, 0x54, 0x10, 0xbb, 0x98,
         ],
     },
     // No clip.

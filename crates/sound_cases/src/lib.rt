@@ -1,5 +1,0 @@
-//! Tests of mixed sound.
-#![tactic(auto)]
-
-#[cfg(test)]
-mod frames;
