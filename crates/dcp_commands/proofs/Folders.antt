@@ -1,10 +1,9 @@
 -- What a crash may leave of a package that stands on the disk, and which files were touched.
 use Rattle.std.proofs.Common.{◌≡◌, List, ℕ, inl, inr, subst}
-use Rattle.std.specs.Prelude.{◌⊎◌}
 use Rattle.disk_terms.proofs.Rest.{at_rest-only}
 use Rattle.disk_terms.specs.Disk.{History, IsImage, MayLeave, at_rest}
 use Rattle.film_project.specs.Facts.{ProjectFacts}
-use Rattle.make_engine.specs.Package.{AreAtRest, HasSound, IsFileOf}
+use Rattle.make_engine.specs.Package.{AreAtRest, IsFileOf}
 use Rattle.mast_world.proofs.Kept.{beside_kept_wider}
 use Rattle.mast_world.specs.Changes.{IsSameBeside}
 use Rattle.mast_world.specs.declared.volume.FileId.{FileId}

@@ -1,5 +1,5 @@
 -- How a run of `make` ends, from how its parts end.
-use Rattle.std.proofs.Common.{◌≡◌, ◌≢◌, ℕ, ◌+◌, ◌≤◌, Bool, true, false, cond, List, length, Some, None, Ok, Err, refl, inl, inr, ap, sym, subst, ◌∙◌, arith}
+use Rattle.std.proofs.Common.{◌≡◌, ◌≢◌, ℕ, ◌+◌, ◌≤◌, List, length, Some, None, Ok, Err, refl, inl, inr, ap, sym, subst, ◌∙◌, arith}
 use Rattle.std.proofs.lemmas.Result.{IfErr-at_err}
 use Rattle.std.specs.Result.{result_ok}
 use Rattle.std.specs.Prelude.{◌⊎◌, IsOk, IsSome, IsSomeAnd, IfErr, OnOk, Option, Result}
@@ -32,7 +32,7 @@ use Rattle.sound_track.specs.declared.end.SoundEnd.TheVariants as of_sound
 use Rattle.track_file.proofs.Written.{counted-counted}
 use Rattle.track_file.specs.declared.end.TrackEnd.TheVariants as of_track
 use Rattle.stream_inspect.specs.declared.ends.InspectEnd.TheVariants as of_read
-use Rattle.dcp_commands.specs.Make.{IsCause, IsMakeStop, IsPackage, IsPlanStop, IsStop, checked, frames_of, of_checked, package_of, project_of, text_of, with_plan}
+use Rattle.dcp_commands.specs.Make.{IsCause, IsMakeStop, IsPackage, IsPlanStop, IsStop, checked, frames_of, of_checked, package_of, project_of, text_of}
 use Rattle.dcp_commands.specs.Status.{Answers, plan_status, refused_status, status_of, stopped_status}
 use Rattle.dcp_commands.specs.Words.{MakeWords, make_words}
 use Rattle.dcp_commands.specs.declared.stopped.Stopped.{Stopped}

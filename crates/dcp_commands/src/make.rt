@@ -2,7 +2,8 @@ ghost use Rattle.std.specs.Prelude.{◌≡◌, ◌⊎◌, None, Err, IfOk, IfErr
 ghost use Rattle.mast_world.specs.Changes.{IsSameBeside, IsSameSource};
 ghost use Rattle.mast_world.specs.Count.{HasRisen};
 ghost use Rattle.dcp_commands.specs.Line.{IsPrinted};
-ghost use Rattle.dcp_commands.specs.Make.{HasEncodedFrames, IsCause, IsFolder, IsMadeText, IsPackage, IsStop, IsTrack, checked, package_of};
+ghost use Rattle.dcp_commands.specs.Make.{HasEncodedFrames, IsCause, IsFolder, IsMadeText, IsPackage};
+ghost use Rattle.dcp_commands.specs.Make.{IsStop, IsTrack, checked, package_of};
 ghost use Rattle.dcp_commands.specs.Status.{Answers};
 ghost use Rattle.dcp_commands.specs.Words.{make_words};
 ghost use Rattle.dcp_commands.specs.declared.status.Status.{Status};

@@ -16,23 +16,49 @@ struct Row {
 
 /// Behind a sync no image has anything else.
 const SYNCED: [Row; 4] = [
-    Row { image: CrashImage::AsBefore, wanted: b"abcd" },
-    Row { image: CrashImage::AsWritten, wanted: b"abcd" },
-    Row { image: CrashImage::HalfWritten, wanted: b"abcd" },
-    Row { image: CrashImage::AllOnes, wanted: b"abcd" },
+    Row {
+        image: CrashImage::AsBefore,
+        wanted: b"abcd",
+    },
+    Row {
+        image: CrashImage::AsWritten,
+        wanted: b"abcd",
+    },
+    Row {
+        image: CrashImage::HalfWritten,
+        wanted: b"abcd",
+    },
+    Row {
+        image: CrashImage::AllOnes,
+        wanted: b"abcd",
+    },
 ];
 
 /// Behind a write of four bytes past the end, and a cut to one byte.
 const UNSYNCED: [Row; 4] = [
-    Row { image: CrashImage::AsBefore, wanted: b"a" },
-    Row { image: CrashImage::AsWritten, wanted: &[b'a', b'b', 9, 8, 7, 6] },
-    Row { image: CrashImage::HalfWritten, wanted: &[b'a', b'b', 9, 8, 0, 0] },
-    Row { image: CrashImage::AllOnes, wanted: &[b'a', b'b', 1, 1, 1, 1] },
+    Row {
+        image: CrashImage::AsBefore,
+        wanted: b"a",
+    },
+    Row {
+        image: CrashImage::AsWritten,
+        wanted: &[b'a', b'b', 9, 8, 7, 6],
+    },
+    Row {
+        image: CrashImage::HalfWritten,
+        wanted: &[b'a', b'b', 9, 8, 0, 0],
+    },
+    Row {
+        image: CrashImage::AllOnes,
+        wanted: &[b'a', b'b', 1, 1, 1, 1],
+    },
 ];
 
 fn expect_images(rt: &impl Abort, volume: &MemVolume, rows: &[Row]) {
     for row in rows {
-        let left = volume.crash_image(row.image, JOB).expect(rt, "there is memory");
+        let left = volume
+            .crash_image(row.image, JOB)
+            .expect(rt, "there is memory");
         assert!(rt; left.as_slice() == row.wanted, "{:?}", row.image);
     }
 }

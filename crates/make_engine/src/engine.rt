@@ -97,14 +97,7 @@ pub fn make_alone<S: Source, V: Volume>(
         → IfErr result IsOutOfMemory }
 {
     let mut maker = FrameMaker::new(alloc, plan)?;
-    write_picture(
-        alloc,
-        plan,
-        &mut maker,
-        &plan.ids.picture,
-        source,
-        volume,
-    )?;
+    write_picture(alloc, plan, &mut maker, &plan.ids.picture, source, volume)?;
     write_sound_file(alloc, plan, source, volume)?;
     Ok(Report {
         frames: plan.project.frames,

@@ -1,6 +1,5 @@
-use Rattle.std.proofs.Common.{◌≡◌, ◌∙◌, ap, subst}
+use Rattle.std.proofs.Common.{◌∙◌, ap}
 use Rattle.std.proofs.lemmas.Result.{IfErr-at_err, err_from_is_err_and}
-use Rattle.disk_terms.specs.Disk.{at_rest}
 use Rattle.film_plan.specs.Plan.{ids_of}
 use Rattle.film_plan.specs.declared.ids.Ids.{Ids}
 use Rattle.make_engine.proofs.Making.{beside_both, beside_picture, made, picture_apart, picture_there, put_both, rests_on, sound_cause, sound_left, values_on}
@@ -8,10 +7,8 @@ use Rattle.make_engine.specs.Causes.{IsMakeCause, IsOutOfMemory}
 use Rattle.make_engine.specs.Package.{HasSound, sound_file}
 use Rattle.make_engine.specs.declared.outcome.MakeEnd.TheVariants as of_make
 use Rattle.mast_world.specs.declared.volume.FileId.TheVariants.{Picture, Sound}
-use Rattle.pcm_mix.specs.Mix.{AreSoundsThere}
 use Rattle.picture_track.proofs.Outcomes.{ended_by}
 use Rattle.picture_track.specs.Causes as of_picture
-use Rattle.picture_track.specs.Picture.{HasFrameValues}
 use Rattle.sound_track.specs.Causes.{IsSoundCause}
 use Rattle.make_engine.proofs.engine.make_alone.Goals as goal
 
@@ -57,9 +54,11 @@ returns-in_err-write_sound_file-clause-ended g c =
     let needed = IfErr-at_err (λ _. HasSound project) was c.write_sound_file.ensures.needed in
     ended_by c.from_residual-in_err-write_sound_file.result p.0 (of_make.Sound end)
     (IsMakeCause source.tells files project source.absent source.faults first now volume.tells volume.reads volume.put volume.faults volume.history c.args.volume.now last)
-    p.1 p.2
-    (needed, sound_cause source.faults first between now volume.faults c.args.volume.now middle last end
-    c.write_picture.ensures.kept.faults_kept c.write_picture.ensures.beside.faults_kept why)
+    p.1 p.2 (
+      needed,
+      sound_cause source.faults first between now volume.faults c.args.volume.now middle last end
+          c.write_picture.ensures.kept.faults_kept c.write_picture.ensures.beside.faults_kept why,
+    )
 
 pub returns-in_err-write_sound_file-clause-beside : goal.returns-in_err-write_sound_file-clause-beside
 returns-in_err-write_sound_file-clause-beside g c =
