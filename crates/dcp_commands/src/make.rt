@@ -81,7 +81,8 @@ pub fn run_make<S: Source, V: Volume, O: Sink>(
     // Why it ended so, status by status; and the other way: words, project and inputs that end the command before a frame
     // is read do so, the first cause in their order.
     ensures cause { IsCause S.tells (S.file source.old) (map string_bytes words.now)
-        S.absent S.faults source.old source.new V.tells V.reads V.put V.faults V.history volume.old volume.new O.faults out.old out.new result }
+        S.absent S.faults source.old source.new V.tells V.reads V.put V.faults V.history volume.old volume.new
+        O.faults out.old out.new result }
     ensures told { (status : Status) → S.tells → checked (S.file source.old) (map string_bytes words.now) ≡ Err status
         → (result ≡ Status.SourceFault) ⊎ Answers result status }
     ensures refused { make_words (map string_bytes words.now) ≡ None → Answers result Status.Usage }

@@ -21,7 +21,8 @@ module _ {A B : Type 0} (tells : Type 0) (files : Files) (project : ProjectFacts
     (history : B → History FileId) (volume volume_now : B) where
   abbrev pub IsMakeCause : MakeEnd → Type 0
   IsMakeCause (Picture end) =
-      of_picture.IsPictureCause tells files project absent faults before now store_tells reads put store_faults history volume volume_now end
+      of_picture.IsPictureCause tells files project absent faults before now store_tells reads put store_faults history
+      volume volume_now end
   IsMakeCause (Sound end) = HasSound project × IsSoundCause faults before now store_faults volume volume_now end
   IsMakeCause NoMemory = IsUnwritten store_tells reads put history volume volume_now
 

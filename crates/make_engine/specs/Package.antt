@@ -58,7 +58,8 @@ IsFileOf project file = (file ≡ Picture 1) ⊎ IsSoundFile project file
 -- may leave.
 
 -- all input of the project was read, and the files are those of its package
-pub record IsMade (volume_tells : Type 0) (files : Files) (project : ProjectFacts) (reads : FileId → List ℕ) (taken_before taken_now : ℕ) : Type 0 where
+pub record IsMade (volume_tells : Type 0) (files : Files) (project : ProjectFacts) (reads : FileId → List ℕ)
+    (taken_before taken_now : ℕ) : Type 0 where
   pub made : PackageFiles
   pub size : ℕ
   pub shown : package_files files project ≡ Ok made
